@@ -1,0 +1,124 @@
+//! Programs of the C subset as trees.
+#![tactic(auto)]
+
+use og_names::Word;
+use sqlite_items::{Boxed, Items};
+
+/// A program: structs, then globals, then the events that it may show, then functions.
+#[derive(Drop)]
+pub struct CProgram {
+    pub structs: Items<CStruct>,
+    pub globals: Items<CGlobal>,
+    pub events: Items<Word>,
+    pub functions: Items<CFunction>,
+}
+
+/// A struct type, with at least one member.
+#[derive(Drop)]
+pub struct CStruct {
+    pub name: Word,
+    pub members: Items<CMember>,
+}
+
+/// A member, an array of `size` elements where there is one.
+#[derive(Drop)]
+pub struct CMember {
+    pub kind: CType,
+    pub name: Word,
+    pub size: Option<u32>,
+}
+
+#[derive(Drop)]
+pub struct CGlobal {
+    pub kind: CType,
+    pub name: Word,
+}
+
+/// `int64_t` (C99 7.18.1.1), or a struct type by its name.
+#[derive(Drop)]
+pub enum CType {
+    Int64,
+    Struct(Word),
+}
+
+#[derive(Drop)]
+pub struct CFunction {
+    pub name: Word,
+    pub body: Items<CStmt>,
+}
+
+/// A statement (C99 6.8). Each one is a step of a run, a label too.
+#[derive(Drop)]
+pub enum CStmt {
+    Assign(CPlace, CExpr),
+    IfGoto(CTest, Word),
+    Goto(Word),
+    Label(Word),
+    /// The number, the cases, and the label of `default`.
+    Switch(CExpr, Items<CCase>, Word),
+    /// A call of an event or of an earlier function.
+    Call(Word),
+    Return,
+}
+
+#[derive(Drop)]
+pub struct CCase {
+    pub value: i64,
+    pub label: Word,
+}
+
+/// A global, or a part of it.
+#[cycle(expression)]
+#[derive(Drop)]
+pub struct CPlace {
+    pub name: Word,
+    pub path: Items<CStep>,
+}
+
+#[cycle(expression)]
+#[derive(Drop)]
+pub enum CStep {
+    Member(Word),
+    At(CExpr),
+}
+
+/// An expression (C99 6.5) over 64-bit numbers.
+#[cycle(expression)]
+#[derive(Drop)]
+pub enum CExpr {
+    Number(i64),
+    Read(CPlace),
+    Minus(Boxed<CExpr>),
+    Op(COp, Boxed<CExpr>, Boxed<CExpr>),
+    /// The first number where the test holds, and otherwise the second.
+    Pick(CTest, Boxed<CExpr>, Boxed<CExpr>),
+}
+
+#[cycle(expression)]
+#[derive(Drop)]
+pub struct CTest {
+    pub op: CRel,
+    pub left: Boxed<CExpr>,
+    pub right: Boxed<CExpr>,
+}
+
+/// The operators `+ - * / %` (C99 6.5.5 and 6.5.6).
+#[derive(Clone, Copy, Debug, PartialEq, Eq)]
+pub enum COp {
+    Add,
+    Sub,
+    Mul,
+    Div,
+    Rem,
+}
+
+/// The relations `== != < <= > >=` (C99 6.5.8 and 6.5.9).
+#[derive(Clone, Copy, Debug, PartialEq, Eq)]
+pub enum CRel {
+    Eq,
+    Ne,
+    Lt,
+    Le,
+    Gt,
+    Ge,
+}

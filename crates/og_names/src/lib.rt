@@ -1,0 +1,21 @@
+//! Names: words of bytes, and a table that numbers folded names in the order in which they come.
+#![tactic(auto)]
+
+mod names;
+
+pub use names::Names;
+use sqlite_items::Items;
+
+/// Memory could not be had.
+#[derive(Clone, Copy, Debug, PartialEq, Eq)]
+pub struct NoMemory;
+
+/// The number of a folded name in a table of names, counted from 0.
+#[derive(Clone, Copy, Debug, PartialEq, Eq)]
+pub struct NameId(pub u32);
+
+/// A list of bytes, such as the spelling of a name.
+#[derive(Debug, Drop)]
+pub struct Word {
+    pub bytes: Items<u8>,
+}
