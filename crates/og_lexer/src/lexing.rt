@@ -1,0 +1,172 @@
+ghost use Rattle.std.specs.Prelude.{◌≡◌, ℕ, ◌+◌, ◌-◌, ◌^◌, ◌<◌, ◌≤◌, List, [], ◌∷◌, ◌++◌, length, take, OnOk, IfOk, IfErr};
+ghost use Rattle.og_lexer.specs.declared.Spanned.{Spanned};
+ghost use Rattle.og_lexer.specs.declared.Comment.{Comment};
+ghost use Rattle.og_base.specs.declared.Violation.{Violation};
+ghost use Rattle.og_lexer.specs.Places.{place_after};
+ghost use Rattle.og_lexer.specs.Pieces.{IsOf, IsWithin};
+ghost use Rattle.og_lexer.specs.Texts.{Lexes, FirstLexical, Refuses, AreInPlace, AreCommentsInPlace, EndsOnce, GainsPiece, token_of, tokens_from, comments_from};
+
+use crate::front::{Front, Shape, front_of};
+use crate::scan::number_value;
+use crate::{Comment, Lexed, Spanned, Token};
+use og_base::{ModelError, Place, Violation};
+use og_names::Word;
+use sqlite_items::Items;
+use std::alloc::Global;
+
+/// Cuts the bytes of a model file into tokens and comments, in time linear in their number. A violation of class L is
+/// reported with the least place; `file` is the number of the file in these places.
+pub fn lex_sdl(alloc: Global, file: u32, bytes: &[u8]) -> Result<Lexed, ModelError>
+    requires { length bytes.now < 2 ^ 32 - 1 }
+    // The bytes lex to these tokens and comments.
+    ensures found { IfOk result (λ lexed. Lexes file bytes.now lexed.tokens lexed.comments) }
+    // They lex to no others.
+    ensures only { IfOk result (λ lexed. (tokens : List Spanned) (comments : List Comment) →
+        Lexes file bytes.now tokens comments → (tokens ≡ lexed.tokens) × (comments ≡ lexed.comments)) }
+    // A violation is the first of class L, and then the bytes lex to nothing.
+    ensures broken { IfErr result (Refuses file bytes.now) }
+    // Each token and comment stands at its bytes and its place, in the order of the file, and End behind all of them.
+    ensures tokens_in_place { IfOk result (λ lexed. AreInPlace file bytes.now 0 lexed.tokens) }
+    ensures comments_in_place { IfOk result (λ lexed. AreCommentsInPlace file bytes.now 0 lexed.comments) }
+    ensures ends { IfOk result (λ lexed. EndsOnce lexed.tokens) }
+{
+    let mut lexed = Lexed {
+        tokens: Items::new(alloc),
+        comments: Items::new(alloc),
+    };
+    let mut place = Place {
+        file,
+        line: 1,
+        column: 1,
+    };
+    let mut at = 0;
+    while at < bytes.len() {
+        let (_, rest) = bytes.split_at(at);
+        let front = match front_of(rest) {
+            Ok(front) => front,
+            Err(rule) => return Err(ModelError::Broken(Violation { rule, place })),
+        };
+        let (text, _) = rest.split_at(front.len);
+        keep(alloc, &mut lexed, front.shape, text, place, at)?;
+        place = place_after(place, text);
+        at += front.len;
+    }
+    put(
+        &mut lexed.tokens,
+        Spanned {
+            token: Token::End,
+            place,
+            start: at as u32,
+            end: at as u32,
+        },
+    )?;
+    Ok(lexed)
+}
+
+/// A text lexes in one way at most, or has one first violation of class L, and never both.
+pub fn one_reading()
+    ensures tokens { (file : ℕ) (bytes : List ℕ) (tokens others : List Spanned) (comments more : List Comment) →
+        Lexes file bytes tokens comments → Lexes file bytes others more → (tokens ≡ others) × (comments ≡ more) }
+    ensures violation { (file : ℕ) (bytes : List ℕ) (v w : Violation) →
+        FirstLexical file bytes v → FirstLexical file bytes w → v ≡ w }
+    ensures apart { (file : ℕ) (bytes : List ℕ) (tokens : List Spanned) (comments : List Comment) (v : Violation) →
+        Lexes file bytes tokens comments → FirstLexical file bytes v → ⊥ }
+{}
+
+/// The bytes before the first violation of class L lex, and to the tokens and comments that stand before it.
+pub fn front_lexes()
+    ensures { (file : ℕ) (bytes : List ℕ) (v : Violation) (first : FirstLexical file bytes v) →
+        let at = length bytes - length first.rest in
+        Lexes file (take at bytes) (tokens_from file bytes 0 first.before) (comments_from file bytes 0 first.before) }
+{}
+
+/// Keeps a piece that stands at the byte `at`: a token or a comment. White space is dropped.
+fn keep(
+    alloc: Global,
+    lexed: &mut Lexed,
+    shape: Shape,
+    text: &[u8],
+    place: Place,
+    at: usize,
+) -> Result<(), ModelError>
+    requires { at + length text.now < 2 ^ 32 }
+    ensures ok { OnOk result (GainsPiece lexed.old lexed.new shape text.now place at) }
+    ensures err { IfErr result (λ e. e ≡ ModelError.NoMemory) }
+{
+    let start = at as u32;
+    let end = (at + text.len()) as u32;
+    match token_of(alloc, shape, text)? {
+        Some(token) => put(
+            &mut lexed.tokens,
+            Spanned {
+                token,
+                place,
+                start,
+                end,
+            },
+        ),
+        None if shape == Shape::Space => Ok(()),
+        None => put(&mut lexed.comments, Comment { place, start, end }),
+    }
+}
+
+/// The token that a piece is.
+fn token_of(alloc: Global, shape: Shape, text: &[u8]) -> Result<Option<Token>, ModelError>
+    requires { IsOf shape text.now × IsWithin shape text.now }
+    ensures ok { IfOk result (λ token. token ≡ token_of shape text.now) }
+    ensures err { IfErr result (λ e. e ≡ ModelError.NoMemory) }
+{
+    let token = match shape {
+        Shape::Space | Shape::BlockComment | Shape::DashComment | Shape::LineComment => return Ok(
+            None,
+        ),
+        Shape::Name => Token::Name(word(alloc, text)?),
+        Shape::Reserved(keyword) => Token::Keyword(keyword),
+        Shape::Digits => Token::Number(number_value(text)),
+        Shape::Quoted => Token::Text(word(alloc, &text[1..text.len() - 1])?),
+        Shape::Sign(mark) => Token::Mark(mark),
+    };
+    Ok(Some(token))
+}
+
+fn word(alloc: Global, bytes: &[u8]) -> Result<Word, ModelError>
+    ensures ok { IfOk result (λ word. word.bytes ≡ bytes.now) }
+    ensures err { IfErr result (λ e. e ≡ ModelError.NoMemory) }
+{
+    match Items::from_slice(alloc, bytes) {
+        Ok(bytes) => Ok(Word { bytes }),
+        Err(_) => Err(ModelError::NoMemory),
+    }
+}
+
+fn put<T: Drop>(items: &mut Items<T>, item: T) -> Result<(), ModelError>
+    ensures ok { OnOk result (items.new ≡ items.old ++ item ∷ []) }
+    ensures err { IfErr result (λ e. e ≡ ModelError.NoMemory) }
+{
+    match items.push(item) {
+        Ok(()) => Ok(()),
+        Err(_) => Err(ModelError::NoMemory),
+    }
+}
+
+/// The place behind these bytes, from the place of their first byte on.
+fn place_after(place: Place, text: &[u8]) -> Place
+    requires lines { place.line + length text.now < 2 ^ 32 }
+    requires columns { place.column + length text.now < 2 ^ 32 }
+    ensures { result ≡ place_after place text.now }
+{
+    let Place {
+        file,
+        mut line,
+        mut column,
+    } = place;
+    for byte in text {
+        if *byte == b'\n' {
+            line += 1;
+            column = 1;
+        } else {
+            column += 1;
+        }
+    }
+    Place { file, line, column }
+}
