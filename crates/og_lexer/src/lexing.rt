@@ -89,7 +89,8 @@ fn keep(
     place: Place,
     at: usize,
 ) -> Result<(), ModelError>
-    requires { at + length text.now < 2 ^ 32 }
+    requires room { at + length text.now < 2 ^ 32 }
+    requires form { IsOf shape text.now × IsWithin shape text.now }
     ensures ok { OnOk result (GainsPiece lexed.old lexed.new shape text.now place at) }
     ensures err { IfErr result (λ e. e ≡ ModelError.NoMemory) }
 {

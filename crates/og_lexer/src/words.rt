@@ -216,7 +216,13 @@ fn is_spelt(word: &[u8], capitals: &[u8]) -> bool
 pub fn keyword_of(word: &[u8]) -> Option<Keyword>
     ensures { result ≡ keyword_in KEYWORDS (map to_ascii_uppercase word.now) }
 {
-    for keyword in &KEYWORDS {
+    keyword_among(&KEYWORDS, word)
+}
+
+fn keyword_among(keywords: &[Keyword], word: &[u8]) -> Option<Keyword>
+    ensures { result ≡ keyword_in keywords.now (map to_ascii_uppercase word.now) }
+{
+    for keyword in keywords {
         if is_spelt(word, keyword_text(*keyword)) {
             return Some(*keyword);
         }
