@@ -1,0 +1,4 @@
+//! The commands of `og`.
+#![tactic(auto)]
+
+mod syntax;
