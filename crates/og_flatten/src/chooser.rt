@@ -1,5 +1,8 @@
 //! The functions of the interface: they choose a transition and call for it.
-use crate::code::{CHOSEN, Draft, REGION, TRANSITION, joined, leave_if_stopped, name_text, number_of, set, slot, sum_of, word_of};
+use crate::code::{
+    CHOSEN, Draft, REGION, TRANSITION, joined, leave_if_stopped, name_text, number_of, set, slot,
+    sum_of, word_of,
+};
 use crate::transition::handler_label;
 use og_ir::{Case, Flat, FlatFn, Instr};
 use og_model::{Handler, Model, Signal, StateDef, Trigger};
@@ -37,13 +40,21 @@ pub fn signal_function(
             if cases.push(case).is_err() {
                 return Err(NoMemory);
             }
-            put_choice(alloc, &mut choices, handler.body, handler_label(alloc, model, state, handler)?)?;
+            put_choice(
+                alloc,
+                &mut choices,
+                handler.body,
+                handler_label(alloc, model, state, handler)?,
+            )?;
         }
     }
     let end = number_of(sum_of(2, choices.code.len())?)?;
     let mut draft = Draft::new(alloc);
     draft.put(alloc, leave_if_stopped(alloc, end))?;
-    draft.put(alloc, Instr::Table(Flat::Read(slot(alloc, REGION)), cases, end))?;
+    draft.put(
+        alloc,
+        Instr::Table(Flat::Read(slot(alloc, REGION)), cases, end),
+    )?;
     draft.append(choices)?;
     draft.put_labelled(Instr::Back, word_of(alloc, b"end")?)?;
     Ok(draft.finish(joined(alloc, b"on_", name_text(model, signal.name))?))

@@ -1,5 +1,7 @@
 //! The function that carries out transitions.
-use crate::code::{CHOSEN, Draft, REGION, joined, label_of, name_text, number_of, set, slot, sum_of, word_of};
+use crate::code::{
+    CHOSEN, Draft, REGION, joined, label_of, name_text, number_of, set, slot, sum_of, word_of,
+};
 use og_ir::{Case, Flat, FlatFn, Instr};
 use og_model::{Action, Block, Body, EndKind, Ending, Handler, Model, StateDef, Step, Trigger};
 use og_names::{NoMemory, Word};
@@ -114,7 +116,12 @@ fn ending_place(ending: &Ending, entering: usize, end: u32) -> Result<u32, NoMem
 }
 
 /// Makes a state the active one.
-fn put_entering(alloc: Global, draft: &mut Draft, name: &[u8], number: usize) -> Result<(), NoMemory> {
+fn put_entering(
+    alloc: Global,
+    draft: &mut Draft,
+    name: &[u8],
+    number: usize,
+) -> Result<(), NoMemory> {
     let label = label_of(alloc, b"enter", name)?;
     draft.put_labelled(set(alloc, REGION, number_of(number)? as i64), label)?;
     draft.put(alloc, Instr::Back)

@@ -1,8 +1,5 @@
+use crate::NoMemory;
 use std::alloc::{AllocError, AllocFailed};
-
-/// Memory could not be had.
-#[derive(Clone, Copy, Debug, PartialEq, Eq)]
-pub struct NoMemory;
 
 impl From<AllocError> for NoMemory {
     fn from(_error: AllocError) -> NoMemory {

@@ -3,14 +3,10 @@ ghost use Rattle.std.specs.Option.{option_copied, option_map};
 ghost use Rattle.og_names.specs.Folding.{fold_byte as folded_byte, folded, place_of, with_name};
 ghost use Rattle.og_names.specs.Table.{IsTable};
 
-use crate::NoMemory;
+use crate::{NameId, NoMemory};
 use indexmap::IndexSet;
 use std::alloc::Global;
 use std::marker::Model;
-
-/// The number of a folded name in a table of names, counted from 0.
-#[derive(Clone, Copy, Debug, PartialEq, Eq)]
-pub struct NameId(pub u32);
 
 /// The most bytes that a name may have.
 const LONGEST: usize = 64;

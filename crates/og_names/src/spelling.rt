@@ -1,14 +1,8 @@
 ghost use Rattle.std.specs.Prelude.{◌≡◌, IfOk};
 
-use crate::NoMemory;
+use crate::{NoMemory, Word};
 use sqlite_items::Items;
 use std::alloc::Global;
-
-/// A list of bytes, such as the spelling of a name.
-#[derive(Debug, Drop)]
-pub struct Word {
-    pub bytes: Items<u8>,
-}
 
 impl Word {
     /// The same bytes once more.
