@@ -1,1 +1,4 @@
+pub mod Ends
+pub mod Fronts
+pub mod Reserved
 pub mod Scans
