@@ -1,12 +1,11 @@
-use Rattle.og_lexer.proofs.Fronts.{front_of-is, front_of-stands, front_of-breaks}
-use Rattle.og_lexer.proofs.Reserved.{keyword-absent}
+use Rattle.og_lexer.proofs.Cutting.{lexes-once, violation-once, lexes-apart}
 use Rattle.og_lexer.proofs.lexing.one_reading.Goals as goal
 
 pub returns-clause-tokens : goal.returns-clause-tokens
-returns-clause-tokens c = ?
+returns-clause-tokens c = lexes-once
 
 pub returns-clause-violation : goal.returns-clause-violation
-returns-clause-violation c = ?
+returns-clause-violation c = violation-once
 
 pub returns-clause-apart : goal.returns-clause-apart
-returns-clause-apart c = ?
+returns-clause-apart c = lexes-apart
