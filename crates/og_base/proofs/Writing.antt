@@ -9,7 +9,6 @@ pub record WrittenSoFar (bytes rest : List ℕ) (old new : Option (List ℕ)) : 
   pub whole : bytes ≡ front ++ rest
   pub taken : new ≡ grown front old
 
-
 grown_twice : (xs ys : List ℕ) (old : Option (List ℕ)) → grown ys (grown xs old) ≡ grown (xs ++ ys) old
 grown_twice xs ys None = refl
 grown_twice xs ys (Some old) = ap Some (simp append_assoc)
