@@ -1,3 +1,4 @@
 pub mod Grammar
 pub mod Rules
 pub mod Files
+pub mod Statuses
