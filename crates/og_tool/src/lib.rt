@@ -1,4 +1,5 @@
 //! The commands of `og`.
 #![tactic(auto)]
 
+mod parse;
 mod syntax;
