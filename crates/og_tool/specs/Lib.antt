@@ -2,3 +2,4 @@ pub mod Grammar
 pub mod Rules
 pub mod Files
 pub mod Statuses
+pub mod Reading
