@@ -1,1 +1,4 @@
 pub mod Shown
+pub mod Expressions
+pub mod Units
+pub mod Actions
