@@ -7,3 +7,4 @@ pub mod Choice
 pub mod Moving
 pub mod Settling
 pub mod Run
+pub mod Laws
