@@ -1,1 +1,4 @@
 pub mod Computing
+pub mod MoreUnits
+pub mod MoreOfModel
+pub mod RunLaws
