@@ -2,3 +2,4 @@ pub mod Computing
 pub mod MoreUnits
 pub mod MoreOfModel
 pub mod RunLaws
+pub mod Depth
