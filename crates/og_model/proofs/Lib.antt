@@ -3,3 +3,4 @@ pub mod MoreUnits
 pub mod MoreOfModel
 pub mod RunLaws
 pub mod Depth
+pub mod Labels

@@ -4,8 +4,13 @@ use Rattle.og_names.specs.declared.NameId.{NameId}
 use Rattle.og_model.specs.declared.Model.{Model}
 use Rattle.og_model.specs.declared.Scope.{Scope}
 use Rattle.og_model.specs.Shown.{Stimulus, Begins, NeverPast, AnswersEach, StaysStopped}
+use Rattle.og_model.specs.declared.Block.{Block, out-Block}
+use Rattle.og_model.specs.declared.Expr.{Expr}
+use Rattle.og_model.specs.declared.Node.{out-Node}
+use Rattle.og_model.specs.declared.Target.{Target}
+use Rattle.og_model.specs.Expressions.{Frame, Store, eval, eval_node, walk, walk_by}
 use Rattle.og_model.specs.Units.{State, Doing}
-use Rattle.og_model.specs.Actions.{Setting, Remainder, run, perform}
+use Rattle.og_model.specs.Actions.{Setting, Remainder, run, perform, tail_in, tail_of_steps}
 use Rattle.og_model.specs.Configuration.{Active}
 use Rattle.og_model.specs.Moving.{enter_by, enter}
 use Rattle.og_model.specs.Settling.{settle_by, settle}
@@ -49,3 +54,14 @@ EachIsAnswered = (M : Model) (list : List Stimulus) (n : ℕ) → AnswersEach li
 -- a process that has stopped shows nothing more
 abbrev pub StoppedForGood : Type 0
 StoppedForGood = (M : Model) (list : List Stimulus) (n : ℕ) → StaysStopped (sdl M list n)
+
+-- an expression is worth what one layer says of the worth of its parts, and a target leads where the worth of its indices
+-- leads it: the depth of the tree is no part of the meaning
+pub record WorthIsByParts : Type 0 where
+  pub expressions : (b : Frame) (s : Store) (e : Expr) → eval b s e ≡ eval_node (eval b s) b s (out-Node e.node)
+  pub targets : (b : Frame) (s : Store) (t : Target) → walk b s t ≡ walk_by (eval b s) b s t
+
+-- and so is what stands behind a label
+abbrev pub TailsAreByParts : Type 0
+TailsAreByParts =
+    (l : NameId) (b : Block) → tail_in l b ≡ tail_of_steps (tail_in l) l (out-Block b).steps (out-Block b).end

@@ -1,5 +1,5 @@
 //! What holds of the meaning of every model, whatever its tree. Each function does nothing, and its contract is the law.
-ghost use Rattle.og_model.specs.Laws.{FuelIsFree, UnitsNeverGrow, MoreUnitsGoOn, EnoughUnitsAreEnough, EachIsAnswered, StoppedForGood};
+ghost use Rattle.og_model.specs.Laws.{FuelIsFree, UnitsNeverGrow, MoreUnitsGoOn, EnoughUnitsAreEnough, EachIsAnswered, StoppedForGood, WorthIsByParts, TailsAreByParts};
 
 /// The fuel by which the meaning recurses changes nothing once it covers the units.
 #[tactic(auto, using(crate::proofs::RunLaws::fuel_is_free))]
@@ -33,3 +33,15 @@ pub fn each_is_answered()
 pub fn stopped_for_good()
     ensures { StoppedForGood }
 {}
+
+/// The worth of an expression and the end of a target go by their parts, whatever the depth of the tree.
+pub fn worth_is_by_parts()
+    ensures { WorthIsByParts }
+{
+}
+
+/// So does what stands behind a label.
+pub fn tails_are_by_parts()
+    ensures { TailsAreByParts }
+{
+}
