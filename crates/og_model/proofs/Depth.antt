@@ -152,6 +152,7 @@ one_deeper n = omega arith
 
 -- an expression by its parts
 pub eval_is : (b : Frame) (s : Store) (e : Expr) → eval b s e ≡ eval_node (eval b s) b s (out-Node e.node)
+unfolding eval
 eval_is b s e =
     within_same (size-Expr e) (suc (size-Expr e)) b s e (le_refl _) (one_deeper (size-Expr e))
     ∙ eval_node_same (eval_within (size-Expr e) b s) (eval b s) (size-Expr e)
@@ -160,6 +161,7 @@ eval_is b s e =
 
 -- a target by the worth of its indices
 pub walk_is : (b : Frame) (s : Store) (t : Target) → walk b s t ≡ walk_by (eval b s) b s t
+unfolding walk eval
 walk_is b s t =
     walk_by_same (eval_within (size-Target t) b s) (eval b s) (size-Target t)
         (λ x r. within_same (size-Target t) (size-Expr x) b s x r (le_refl _)) b s t (le_refl _)

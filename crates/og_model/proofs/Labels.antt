@@ -114,6 +114,7 @@ one_deeper : (n : ℕ) → n ≤ suc n
 one_deeper n = omega arith
 
 pub tail_in_is : (l : NameId) (b : Block) → tail_in l b ≡ tail_of_steps (tail_in l) l (out-Block b).steps (out-Block b).end
+unfolding tail_in
 tail_in_is l b =
     tail_within_same (size-Block b) (suc (size-Block b)) l b (le_refl _) (one_deeper (size-Block b))
     ∙ steps_same (tail_within (size-Block b) l) (tail_in l) (size-Block b)

@@ -5,7 +5,7 @@ use Rattle.og_model.specs.declared.Model.{Model}
 use Rattle.og_model.specs.Shown.{Event, Shown, Stimulus, Begins, NeverPast, AnswersEach, StaysStopped, ShowsNothing}
 use Rattle.og_model.specs.Units.{State, Outcome, Done, Stop, Fault, Out, Ran}
 use Rattle.og_model.specs.Configuration.{Active}
-use Rattle.og_model.specs.Run.{first_state, start, step, shown, shown_stopped, follow}
+use Rattle.og_model.specs.Run.{first_state, start, step, shown, shown_stopped, follow, sdl}
 use Rattle.og_model.specs.Laws.{FuelIsFree, UnitsNeverGrow, MoreUnitsGoOn, EnoughUnitsAreEnough, EachIsAnswered, StoppedForGood}
 use Rattle.og_model.proofs.MoreUnits.{ExtendsBy, Extends}
 use Rattle.og_model.proofs.MoreOfModel.{run_tied, perform_tied, enter_by_tied, enter_tied, settle_by_tied, settle_tied, start_tied, step_tied}
@@ -78,6 +78,7 @@ difference : (n more : ℕ) → n ≤ more → more ≡ n + (more - n)
 difference n more p = omega (arith, p)
 
 pub more_units_go_on : MoreUnitsGoOn
+unfolding sdl
 more_units_go_on M list n more p =
     let r = start M n (first_state M) in
     go_on_with_more M n (more - n) more (difference n more p) list r.outcome r.events r.state r.left (start M more (first_state M))
@@ -96,6 +97,7 @@ same_with_more M n k n' e list (Fault kind place) es s left r' x h = ap (run_fro
 same_with_more M n k n' e list Out es s left r' x h = absurd h.0
 
 pub enough_units_are_enough : EnoughUnitsAreEnough
+unfolding sdl
 enough_units_are_enough M list n more p h =
     let r = start M n (first_state M) in
     same_with_more M n (more - n) more (difference n more p) list r.outcome r.events r.state r.left (start M more (first_state M))
@@ -116,6 +118,7 @@ answers_from M n [] Out es s left = refl
 answers_from M n (x ∷ xs) Out es s left = refl
 
 pub each_is_answered : EachIsAnswered
+unfolding sdl
 each_is_answered M list n = let r = start M n (first_state M) in answers_from M n list r.outcome r.events r.state r.left
 
 all_show_nothing : (s : State) (list : List Stimulus) → AllByRecursion (ShowsNothing s.store.variables) (map (shown_stopped s) list)
@@ -136,4 +139,5 @@ stays_from M n list (Fault kind place) es s left = (tt, tt)
 stays_from M n list Out es s left = (tt, tt)
 
 pub stopped_for_good : StoppedForGood
+unfolding sdl
 stopped_for_good M list n = let r = start M n (first_state M) in stays_from M n list r.outcome r.events r.state r.left

@@ -111,7 +111,7 @@ tail_within zero l block = None
 tail_within (suc depth) l block = tail_of_steps (tail_within depth l) l (out-Block block).steps (out-Block block).end
 
 -- from the label in a block
-abbrev pub tail_in : NameId → Block → Option Remainder
+unfoldable pub tail_in : NameId → Block → Option Remainder
 tail_in l block = tail_within (size-Block block) l block
 
 abbrev pub tail_of_body : NameId → Body → Option Remainder
