@@ -1,6 +1,8 @@
 //! The resolved model of a process: its data, its procedures and its nested states.
 #![tactic(auto)]
 
+pub mod laws;
+
 use og_base::Place;
 use og_names::{NameId, Names};
 use og_types::{TypeId, TypeTable, Value};
