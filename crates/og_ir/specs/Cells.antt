@@ -25,6 +25,11 @@ abbrev pub equal_parts : ℕ → Cells → Cells
 equal_parts zero part = Empty
 equal_parts (suc n) part = Both part (equal_parts n part)
 
+-- the cells that there are
+abbrev pub cells_by : {A : Type 0} → (A → Cells) → Option A → Cells
+cells_by f None = Empty
+cells_by f (Some x) = f x
+
 -- the number that stands in one cell
 abbrev pub number_in : Cells → Option ℤ
 number_in (Cell n) = Some n

@@ -13,7 +13,7 @@ use Rattle.og_types.specs.declared.Value.{Value, out-Value}
 use Rattle.og_types.specs.declared.Value.TheVariants as made
 use Rattle.og_types.specs.declared.Value.TheOpen as value
 use Rattle.og_types.specs.declared.Value.TheOpen.{Value-F}
-use Rattle.og_ir.specs.Cells.{◌>>=◌, Cells, Cell, Empty, Both, row, equal_parts, number_in, part}
+use Rattle.og_ir.specs.Cells.{◌>>=◌, Cells, Cell, Empty, Both, row, equal_parts, number_in, part, cells_by}
 
 -- a number from 0 up
 abbrev pub natural : ℤ → Option ℕ
@@ -119,11 +119,6 @@ blank_sort blank (sort.SeqOf lo zero item) = Both (Cell (pos 0)) Empty
 blank_sort blank (sort.SeqOf lo (suc hi) item) = Both (Cell (pos 0)) (Both (equal_parts (suc hi) (blank item)) Empty)
 blank_sort blank sort.Opaque = Empty
 
--- the cells of no type are none
-abbrev pub cells_by : (Sort → Cells) → Option Sort → Cells
-cells_by f None = Empty
-cells_by f (Some s) = f s
-
 abbrev pub blank_within : ℕ → List Sort → TypeId → Cells
 blank_within zero sorts t = Empty
 blank_within (suc depth) sorts t = cells_by (blank_sort (blank_within depth sorts)) (slice_get sorts t.0)
@@ -148,7 +143,7 @@ write_alternatives blank write (p ∷ parts) (suc k) v =
 -- the items, and 0 past them
 abbrev pub write_items : Cells → (Value → Cells) → ℕ → List Value → Cells
 write_items unused write zero vs = Empty
-write_items unused write (suc n) [] = Both empty (write_items unused write n [])
+write_items unused write (suc n) [] = Both unused (write_items unused write n [])
 write_items unused write (suc n) (v ∷ vs) = Both (write v) (write_items unused write n vs)
 
 abbrev pub write_sequence : (TypeId → Cells) → (TypeId → Value → Cells) → List Part → List Value → Cells

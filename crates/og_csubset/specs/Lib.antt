@@ -1,0 +1,6 @@
+pub mod Kinds
+pub mod Interface
+pub mod Loading
+pub mod Step
+pub mod Reads
+pub mod Run
