@@ -4,3 +4,5 @@ pub mod Loading
 pub mod Step
 pub mod Reads
 pub mod Run
+pub mod Agreement
+pub mod FlatRun
