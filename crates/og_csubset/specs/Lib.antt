@@ -6,3 +6,6 @@ pub mod Reads
 pub mod Run
 pub mod Agreement
 pub mod FlatRun
+pub mod Tokens
+pub mod Spelling
+pub mod Nesting
