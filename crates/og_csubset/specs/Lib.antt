@@ -9,3 +9,4 @@ pub mod FlatRun
 pub mod Tokens
 pub mod Spelling
 pub mod Nesting
+pub mod Fair
