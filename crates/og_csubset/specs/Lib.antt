@@ -10,3 +10,4 @@ pub mod Tokens
 pub mod Spelling
 pub mod Nesting
 pub mod Fair
+pub mod Examples
