@@ -1,2 +1,4 @@
 pub mod Lexing
 pub mod ExampleRuns
+pub mod MachineRuns
+pub mod RunLaws
