@@ -2,3 +2,4 @@ pub mod Lexing
 pub mod ExampleRuns
 pub mod MachineRuns
 pub mod RunLaws
+pub mod Depth
