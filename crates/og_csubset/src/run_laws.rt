@@ -10,7 +10,9 @@ ghost use Rattle.og_ir.specs.Cells.{Cells};
 ghost use Rattle.og_ir.specs.Arithmetic.{Trouble};
 ghost use Rattle.og_ir.specs.Steps.{Config, Over, Broken, quiet, and_then, exec};
 ghost use Rattle.og_csubset.specs.declared.CProgram.{CProgram as Program};
-ghost use Rattle.og_csubset.specs.Step.{cstep};
+ghost use Rattle.og_csubset.specs.declared.CExpr.{CExpr as Expression, out-CExpr};
+ghost use Rattle.og_csubset.specs.Loading.{number_by, is_number};
+ghost use Rattle.og_csubset.specs.Step.{cstep, value_by, value_of};
 ghost use Rattle.og_csubset.specs.Run.{c};
 ghost use Rattle.og_csubset.specs.FlatRun.{flat, flat_in_64_bits};
 ghost use Rattle.og_csubset.specs.Agreement.{enough, AreStimuli, SameBehaviour};
@@ -67,5 +69,14 @@ pub fn agreeing_programs_show_the_same()
         → SameBehaviour model regions P → SameBehaviour model regions Q
         → (stimuli : List Stimulus) → AreStimuli model stimuli → (m : ℕ) → has_past (c P model regions stimuli m) ≡ false
         → (k : ℕ) × (c Q model regions stimuli k ≡ c P model regions stimuli m) }
+{
+}
+
+/// The value of an expression is made of the values of its parts, and it is a number where they are.
+pub fn values_of_parts()
+    ensures value { (program : Program) (globals : List Cells) (e : Expression)
+        → value_of program globals e ≡ value_by (value_of program globals) program globals (out-CExpr e) }
+    ensures number { (program : Program) (e : Expression)
+        → is_number program e ≡ number_by (is_number program) program (out-CExpr e) }
 {
 }
