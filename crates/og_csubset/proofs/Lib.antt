@@ -3,3 +3,4 @@ pub mod ExampleRuns
 pub mod MachineRuns
 pub mod RunLaws
 pub mod Depth
+pub mod FlatExampleRuns

@@ -11,3 +11,4 @@ pub mod Spelling
 pub mod Nesting
 pub mod Fair
 pub mod Examples
+pub mod FlatExamples
