@@ -4,3 +4,4 @@ pub mod MachineRuns
 pub mod RunLaws
 pub mod Depth
 pub mod FlatExampleRuns
+pub mod BoundedRuns

@@ -3,7 +3,7 @@
 ghost use Rattle.std.specs.Prelude.{◌≡◌, ℕ, ◌+◌, ◌≤◌, List, Option, false};
 ghost use Rattle.og_model.specs.declared.Model.{Model as Process};
 ghost use Rattle.og_model.specs.RegionTypes.{Region};
-ghost use Rattle.og_model.specs.Shown.{Stimulus, has_past, Begins};
+ghost use Rattle.og_model.specs.Shown.{Stimulus, has_past, has_stuck, Begins};
 ghost use Rattle.og_model.specs.Run.{sdl};
 ghost use Rattle.og_ir.specs.declared.Ir.{Ir as Code};
 ghost use Rattle.og_ir.specs.Cells.{Cells};
@@ -78,5 +78,13 @@ pub fn values_of_parts()
         → value_of program globals e ≡ value_by (value_of program globals) program globals (out-CExpr e) }
     ensures number { (program : Program) (e : Expression)
         → is_number program e ≡ number_by (is_number program) program (out-CExpr e) }
+{
+}
+
+/// Flat code that is not stuck with the numbers of 64 bits shows the same with all numbers.
+pub fn code_within_64_bits()
+    ensures { (ir : Code) (model : Process) (regions : List Region) (stimuli : List Stimulus) (n : ℕ)
+        → has_stuck (flat_in_64_bits ir model regions stimuli n) ≡ false
+        → flat ir model regions stimuli n ≡ flat_in_64_bits ir model regions stimuli n }
 {
 }
