@@ -1,4 +1,5 @@
 pub mod Shown
+pub mod RegionTypes
 pub mod Expressions
 pub mod Units
 pub mod Actions

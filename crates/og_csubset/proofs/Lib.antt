@@ -1,0 +1,7 @@
+pub mod Lexing
+pub mod ExampleRuns
+pub mod MachineRuns
+pub mod RunLaws
+pub mod Depth
+pub mod FlatExampleRuns
+pub mod BoundedRuns
