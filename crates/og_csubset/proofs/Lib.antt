@@ -1,1 +1,4 @@
-pub mod Lexing
+mod Lexing
+mod Reading
+mod Seen
+mod Complete
