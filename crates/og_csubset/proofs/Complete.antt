@@ -20,8 +20,9 @@ use Rattle.og_csubset.specs.declared.COp.{COp}
 use Rattle.og_csubset.specs.declared.COp.TheVariants.{Add, Sub, Mul, Div, Rem}
 use Rattle.og_csubset.specs.declared.CRel.{CRel}
 use Rattle.og_csubset.specs.Tokens.{Token, name, number, operator, relation, keyword, mark, Keyword, typedef_, struct_, void_, if_, goto_, switch_, case_, default_, return_, int64_t, INT64_C, Mark, open_brace, close_brace, open_square, close_square, open_round, close_round, semicolon, colon, question, dot, equals}
-use Rattle.og_csubset.specs.Spelling.{word, least, literal, least_text, is_sum, is_product, IsSum, sum, SumGoesOn, sum_ends, add, IsProduct, product, ProductGoesOn, product_ends, multiply, IsSigned, positive, negative, minus_zero, unsigned, minus, IsOperand, read, bracket, pick, least_number, IsTest, test, IsPlace, place, IsPath, path_ends, member, index, Each, none, one_more, IsConstant, constant, negative_constant, least_constant, IsCase, case_goto, IsStatement, assign, if_goto, goto, label, switch, call, return, IsType, number_type, struct_type, IsMember, single, array, IsStruct, structure, IsGlobal, global, IsEvent, event, IsFunction, function, IsProgram, program}
-use Rattle.og_csubset.proofs.Seen.{not_least}
+use Rattle.og_csubset.specs.Spelling.{word, least, literal, least_text, is_sum, is_product, IsSum, sum, SumGoesOn, sum_ends, add, IsProduct, product, ProductGoesOn, product_ends, multiply, IsSigned, positive, negative, minus_zero, unsigned, minus, IsOperand, read, bracket, pick, least_number, IsTest, test, IsPlace, place, IsPath, path_ends, member, index, Each, none, one_more, IsConstant, constant, negative_constant, least_constant, IsCase, case_goto, IsStatement, assign, if_goto, goto, label, switch, call, return, IsType, number_type, struct_type, IsMember, single, array, IsStruct, structure, IsGlobal, global, IsEvent, event, IsFunction, function, IsProgram, program, CSpells}
+use Rattle.og_csubset.proofs.Lexing.{HasTokens-unique}
+use Rattle.og_csubset.proofs.Seen.{not_least, Some-same}
 use Rattle.og_csubset.proofs.Reading.{Found, Reader, and_then, or_else, literal_at, least_at, least_end, negated, bracket_end, path_at, operand_at, signed_at, product_rest, product_at, sum_rest, sum_at, number_at, test_at, each_step, each_at, constant_at, case_at, named_at, goto_at, if_at, switch_at, return_at, statement_at, type_at, member_end, member_at, struct_end, struct_at, global_at, head_at, event_at, function_at, whole, program_at, read_tokens}
 
 -- what a text of a number can go on with: at 0 a selector, at 1 an operator of a product, at 2 one of a sum, at 3 none
@@ -335,3 +336,180 @@ mutual
   path_complete (index e p) d (suc f) ends fits enough =
       let shorter = sum_shrinks e in
       index_by (number_at d) f _ _ _ _ _ (number_by d _ _ (λ k within. sum_complete e k (suc k) refl within within) (omega (arith, sum_shrinks e)) (omega arith)) (path_complete p d f ends (omega arith) (omega arith))
+
+pub number_complete : {e : CExpr} {ts rest : List Token} → IsSum e ts rest → (d : ℕ) → level rest ≡ 3 → length ts ≤ d
+    → number_at d ts ≡ Some (e, rest)
+number_complete p d ends fits = number_by d _ _ (λ k within. sum_complete p k (suc k) ends within within) (omega (arith, sum_shrinks p)) fits
+
+test_complete : {t : CTest} {ts rest : List Token} → IsTest t ts rest → (d : ℕ) → level rest ≡ 3 → length ts ≤ d → test_at d ts ≡ Some (t, rest)
+unfolding test_at
+test_complete (test p q) d ends fits =
+    let shorter = sum_shrinks p in rw (number_complete p d refl fits, number_complete q d ends (omega arith))
+
+-- selectors, where the brackets of their indices have room
+steps_complete : {steps : List CStep} {ts rest : List Token} → IsPath steps ts rest → (d : ℕ) → 0 < level rest → length ts ≤ d
+    → path_at (number_at d) d ts ≡ Some (steps, rest)
+steps_complete p d ends fits = path_complete p d d ends (omega arith) fits
+
+module _ {A : Type 0} (Is : A → List Token → List Token → Type 0) (one : Reader A) (d : ℕ)
+    (shrinks : (x : A) (ts rest : List Token) → Is x ts rest → length rest < length ts)
+    (finds : (x : A) (ts rest : List Token) → Is x ts rest → length ts ≤ d → one ts ≡ Some (x, rest)) where
+  each_complete : {xs : List A} {ts rest : List Token} → Each Is xs ts rest → (f : ℕ) → one rest ≡ None → length ts ≤ d → length ts ≤ f
+      → each_at one f ts ≡ Some (xs, rest)
+  unfolding each_at
+  each_complete none zero ends fits enough = refl
+  each_complete none (suc f) ends fits enough = rw ends
+  each_complete (one_more p more) zero ends fits enough = absurd (omega (arith, shrinks _ _ _ p))
+  each_complete (one_more p more) (suc f) ends fits enough =
+      let shorter = shrinks _ _ _ p in
+      rw (finds _ _ _ p fits, each_complete more f ends (omega arith) (omega arith))
+
+each_shrinks : {A : Type 0} {Is : A → List Token → List Token → Type 0} {xs : List A} {ts rest : List Token}
+    → ((x : A) (us vs : List Token) → Is x us vs → length vs < length us) → Each Is xs ts rest → length rest ≤ length ts
+each_shrinks h none = omega arith
+each_shrinks h (one_more p more) = omega (arith, h _ _ _ p, each_shrinks h more)
+
+constant_shrinks : {z : ℤ} {ts rest : List Token} → IsConstant z ts rest → length rest < length ts
+constant_shrinks constant = omega arith
+constant_shrinks negative_constant = omega arith
+constant_shrinks least_constant = omega arith
+
+constant_complete : {z : ℤ} {ts rest : List Token} → IsConstant z ts rest → constant_at ts ≡ Some (z, rest)
+unfolding constant_at
+constant_complete constant = refl
+constant_complete negative_constant = refl
+constant_complete least_constant = refl
+
+case_shrinks : (c : CCase) (ts rest : List Token) → IsCase c ts rest → length rest < length ts
+case_shrinks c ts rest (case_goto p) = omega (arith, constant_shrinks p)
+
+case_complete : (c : CCase) (ts rest : List Token) → IsCase c ts rest → case_at ts ≡ Some (c, rest)
+unfolding case_at
+case_complete c ts rest (case_goto p) = rw (constant_complete p)
+
+statement_shrinks : (s : CStmt) (ts rest : List Token) → IsStatement s ts rest → length rest < length ts
+statement_shrinks s ts rest (assign p e) = omega (arith, place_shrinks p, sum_shrinks e)
+statement_shrinks s ts rest (if_goto t) = omega (arith, test_shrinks t)
+statement_shrinks s ts rest goto = omega arith
+statement_shrinks s ts rest label = omega arith
+statement_shrinks s ts rest (switch e cases) = omega (arith, sum_shrinks e, each_shrinks case_shrinks cases)
+statement_shrinks s ts rest call = omega arith
+statement_shrinks s ts rest return = omega arith
+
+-- behind the name of an assignment's target neither `:` nor `(` stands
+assign_by : {steps : List CStep} {ts us : List Token} (d : ℕ) (w : List ℕ) (e : CExpr) (rest : List Token) → IsPath steps ts (mark equals ∷ us)
+    → path_at (number_at d) d ts ≡ Some (steps, mark equals ∷ us) → number_at d us ≡ Some (e, mark semicolon ∷ rest)
+    → named_at d w ts ≡ Some (Assign (record { name = word w; path = steps }) e, rest)
+unfolding named_at
+assign_by d w e rest path_ends p q = rw (p, q)
+assign_by d w e rest (member more) p q = rw (p, q)
+assign_by d w e rest (index i more) p q = rw (p, q)
+
+statement_complete : (d : ℕ) (s : CStmt) (ts rest : List Token) → IsStatement s ts rest → length ts ≤ d → statement_at d ts ≡ Some (s, rest)
+unfolding statement_at named_at goto_at if_at switch_at return_at case_at
+statement_complete d s ts rest (assign (place p) e) fits =
+    let shorter = path_shrinks p in
+    assign_by d _ _ rest p (steps_complete p d (omega arith) (omega arith)) (number_complete e d refl (omega arith))
+statement_complete d s ts rest (if_goto t) fits = rw (test_complete t d refl (omega arith))
+statement_complete d s ts rest goto fits = refl
+statement_complete d s ts rest label fits = refl
+statement_complete d s ts rest (switch e cases) fits =
+    let shorter = sum_shrinks e in
+    rw (number_complete e d refl (omega arith), each_complete IsCase case_at d case_shrinks (λ c us vs p within. case_complete c us vs p) cases d refl (omega arith) (omega arith))
+statement_complete d s ts rest call fits = refl
+statement_complete d s ts rest return fits = refl
+
+type_shrinks : {k : CType} {ts rest : List Token} → IsType k ts rest → length rest < length ts
+type_shrinks number_type = omega arith
+type_shrinks struct_type = omega arith
+
+type_complete : {k : CType} {ts rest : List Token} → IsType k ts rest → type_at ts ≡ Some (k, rest)
+unfolding type_at
+type_complete number_type = refl
+type_complete struct_type = refl
+
+member_shrinks : (m : CMember) (ts rest : List Token) → IsMember m ts rest → length rest < length ts
+member_shrinks m ts rest (single k) = omega (arith, type_shrinks k)
+member_shrinks m ts rest (array low high k) = omega (arith, type_shrinks k)
+
+member_complete : (m : CMember) (ts rest : List Token) → IsMember m ts rest → member_at ts ≡ Some (m, rest)
+unfolding member_at member_end
+member_complete m ts rest (single k) = rw (type_complete k)
+member_complete m ts rest (array {n} low high k) = rw (type_complete k, lt-ltb 0 n low, le-leb n 65536 high)
+
+struct_shrinks : (s : CStruct) (ts rest : List Token) → IsStruct s ts rest → length rest < length ts
+struct_shrinks s ts rest (structure ms) = omega (arith, each_shrinks member_shrinks ms)
+
+struct_complete : (d : ℕ) (s : CStruct) (ts rest : List Token) → IsStruct s ts rest → length ts ≤ d → struct_at d ts ≡ Some (s, rest)
+unfolding struct_at struct_end member_at type_at
+struct_complete d s ts rest (structure ms) fits =
+    rw (each_complete IsMember member_at d member_shrinks (λ m us vs p within. member_complete m us vs p) ms d refl (omega arith) (omega arith))
+
+global_shrinks : (g : CGlobal) (ts rest : List Token) → IsGlobal g ts rest → length rest < length ts
+global_shrinks g ts rest (global k) = omega (arith, type_shrinks k)
+
+global_complete : (g : CGlobal) (ts rest : List Token) → IsGlobal g ts rest → global_at ts ≡ Some (g, rest)
+unfolding global_at
+global_complete g ts rest (global k) = rw (type_complete k)
+
+event_shrinks : (e : Word) (ts rest : List Token) → IsEvent e ts rest → length rest < length ts
+event_shrinks e ts rest event = omega arith
+
+event_complete : (e : Word) (ts rest : List Token) → IsEvent e ts rest → event_at ts ≡ Some (e, rest)
+unfolding event_at head_at
+event_complete e ts rest event = refl
+
+function_shrinks : (f : CFunction) (ts rest : List Token) → IsFunction f ts rest → length rest < length ts
+function_shrinks f ts rest (function body) = omega (arith, each_shrinks statement_shrinks body)
+
+function_complete : (d : ℕ) (f : CFunction) (ts rest : List Token) → IsFunction f ts rest → length ts ≤ d → function_at d ts ≡ Some (f, rest)
+unfolding function_at head_at statement_at
+function_complete d f ts rest (function body) fits =
+    rw (each_complete IsStatement (statement_at d) d statement_shrinks (statement_complete d) body d refl (omega arith) (omega arith))
+
+-- where the functions begin no event, no global and no struct begins, and so on outward
+no_event : {fs : List CFunction} {ts rest : List Token} → Each IsFunction fs ts rest → rest ≡ [] → event_at ts ≡ None
+unfolding event_at head_at
+no_event none e = rw e
+no_event (one_more (function body) more) e = refl
+
+no_global : {es : List Word} {fs : List CFunction} {ts us rest : List Token} → Each IsEvent es ts us → Each IsFunction fs us rest → rest ≡ []
+    → global_at ts ≡ None
+unfolding global_at type_at
+no_global none none e = rw e
+no_global none (one_more (function body) more) e = refl
+no_global (one_more event more) fs e = refl
+
+no_struct : {gs : List CGlobal} {es : List Word} {fs : List CFunction} {ts us vs rest : List Token} (d : ℕ) → Each IsGlobal gs ts us
+    → Each IsEvent es us vs → Each IsFunction fs vs rest → rest ≡ [] → struct_at d ts ≡ None
+unfolding struct_at
+no_struct d none none none e = rw e
+no_struct d none none (one_more (function body) more) e = refl
+no_struct d none (one_more event more) fs e = refl
+no_struct d (one_more (global number_type) more) es fs e = refl
+no_struct d (one_more (global struct_type) more) es fs e = refl
+
+program_complete : {P : CProgram} {ts : List Token} → IsProgram P ts → (d : ℕ) → length ts ≤ d → program_at d ts ≡ Some (P, [])
+unfolding program_at function_at head_at
+program_complete (program structs globals events functions) d fits =
+    let a = each_shrinks struct_shrinks structs in
+    let b = each_shrinks global_shrinks globals in
+    let c = each_shrinks event_shrinks events in
+    let e = each_complete IsStruct (struct_at d) d struct_shrinks (struct_complete d) structs d (no_struct d globals events functions refl) fits fits in
+    let f = each_complete IsGlobal global_at d global_shrinks (λ g us vs p within. global_complete g us vs p) globals d (no_global events functions refl) (omega arith) (omega arith) in
+    let g = each_complete IsEvent event_at d event_shrinks (λ x us vs p within. event_complete x us vs p) events d (no_event functions refl) (omega arith) (omega arith) in
+    let h = each_complete IsFunction (function_at d) d function_shrinks (function_complete d) functions d refl (omega arith) (omega arith) in
+    rw (e, f, g, h)
+
+-- what the grammar has the reader finds
+pub read_complete : {P : CProgram} {ts : List Token} → IsProgram P ts → read_tokens ts ≡ Some P
+unfolding read_tokens
+read_complete {ts} p = rw (program_complete p (length ts) (omega arith))
+
+-- tokens are the text of one program at most
+pub IsProgram-unique : {P Q : CProgram} {ts : List Token} → IsProgram P ts → IsProgram Q ts → P ≡ Q
+IsProgram-unique {P} {Q} p q = Some-same P Q (sym (read_complete p) ∙ read_complete q)
+
+pub CSpells-unique : (P Q : CProgram) (text : List ℕ) → CSpells P text → CSpells Q text → P ≡ Q
+CSpells-unique P Q text h k =
+    IsProgram-unique h.2 (subst (λ ts. IsProgram Q ts) (HasTokens-unique k.0 h.0 text k.1 h.1) k.2)

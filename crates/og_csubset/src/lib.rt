@@ -1,7 +1,10 @@
 //! Programs of the C subset as trees.
 #![tactic(auto)]
 
+mod spelling_laws;
+
 use og_names::Word;
+pub use spelling_laws::one_program;
 use sqlite_items::{Boxed, Items};
 
 /// A program: structs, then globals, then the events that it may show, then functions.
