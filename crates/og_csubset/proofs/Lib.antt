@@ -2,3 +2,4 @@ mod Lexing
 mod Reading
 mod Seen
 mod Complete
+mod Sound

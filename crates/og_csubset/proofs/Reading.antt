@@ -112,7 +112,7 @@ negated (suc n) = Number (negsuc n)
 -- what a bracket is that `a` stands in, behind `a`
 unfoldable pub bracket_end : Reader CExpr → CExpr → Reader CExpr
 bracket_end inner a [] = None
-bracket_end inner a (mark m ∷ ts) = cond (mark_number m == mark_number close_round) (Some (a, ts)) None
+bracket_end inner a (mark m ∷ ts) = at_mark close_round (mark m ∷ ts) (λ rest. Some (a, rest))
 bracket_end inner a (relation op ∷ ts) =
     and_then (inner ts) (λ b us. at_mark question us (λ vs. and_then (inner vs) (λ c ws. at_mark colon ws (λ xs. and_then (inner xs)
     (λ d ys. at_mark close_round ys (λ rest. Some (Pick (record { op = op; left = a; right = b }) c d, rest)))))))

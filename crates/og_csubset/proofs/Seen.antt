@@ -85,11 +85,12 @@ pub seen_then : {A B : Type 0} (o : Found A) (go : A → List Token → Found B)
 seen_then None go r h = nothing r h
 seen_then (Some p) go r h = (p.0, p.1, refl, h)
 
-pub seen_else : {A : Type 0} (o other : Found A) (r : A × List Token) → or_else o other ≡ Some r → (o ≡ Some r) ⊎ (other ≡ Some r)
-seen_else None other r h = inr h
+pub seen_else : {A : Type 0} (o other : Found A) (r : A × List Token) → or_else o other ≡ Some r
+    → (o ≡ Some r) ⊎ ((o ≡ None) × (other ≡ Some r))
+seen_else None other r h = inr (refl, h)
 seen_else (Some p) other r h = inl h
 
-seen_cond : {A : Type 0} (b : Bool) (o : Option A) (r : A) → cond b o None ≡ Some r → (b ≡ true) × (o ≡ Some r)
+pub seen_cond : {A : Type 0} (b : Bool) (o : Option A) (r : A) → cond b o None ≡ Some r → (b ≡ true) × (o ≡ Some r)
 seen_cond true o r h = (refl, h)
 seen_cond false o r h = nothing r h
 
@@ -184,3 +185,10 @@ not_least ts other = go (least_at ts) refl
     go : (o : Found CExpr) → least_at ts ≡ o → least_at ts ≡ None
     go None e = e
     go (Some p) e = absurd (other p.1 (seen_least ts p.1 p.0 e).1)
+
+pub least_missed : (ts : List Token) → least_at ts ≡ None → (more : List Token) → mark open_round ∷ ts ≡ least_text more → ⊥
+least_missed ts missed more same = nothing (Number least, more) (sym missed ∙ ap least_at (ap behind_first same))
+  where
+    behind_first : List Token → List Token
+    behind_first [] = []
+    behind_first (u ∷ us) = us
