@@ -398,3 +398,131 @@ type_sound [] r h = nothing r h
 type_sound (keyword int64_t ∷ ts) r h = given (λ p. IsType p.0 (keyword int64_t ∷ ts) p.1) Int64 ts r h number_type
 type_sound (name s ∷ ts) r h = given (λ p. IsType p.0 (name s ∷ ts) p.1) (Struct (word s)) ts r h struct_type
 type_sound (_ ∷ ts) r h = nothing r h
+
+member_end_sound : (kind : CType) (m : List ℕ) (ts us : List Token) (r : CMember × List Token) → IsType kind ts (name m ∷ us)
+    → member_end kind m us ≡ Some r → IsMember r.0 ts r.1
+unfolding member_end
+member_end_sound kind m ts (mark semicolon ∷ us) r p h =
+    given (λ q. IsMember q.0 ts q.1) (record { kind = kind; name = word m; size = None }) us r h (single p)
+member_end_sound kind m ts (mark open_square ∷ us) r p h =
+    let a = seen_number us _ r h in
+    let b = seen_cond (nat_lt 0 a.0 && nat_le a.0 65536) _ r a.3 in
+    let c = seen_mark close_square a.1 _ r b.1 in
+    let e = seen_mark semicolon c.0 _ r c.2 in
+    let bounds = and_parts (nat_lt 0 a.0) (nat_le a.0 65536) b.0 in
+    let text : mark open_square ∷ us ≡ mark open_square ∷ number a.0 ∷ mark close_square ∷ mark semicolon ∷ e.0 = on _ (a.2 ∙ on _ (c.1 ∙ on _ e.1)) in
+    given (λ q. IsMember q.0 ts q.1) (record { kind = kind; name = word m; size = Some a.0 }) e.0 r e.2
+        (array (ltb-true 0 a.0 bounds.0) (leb-true a.0 65536 bounds.1) (subst (λ l. IsType kind ts (name m ∷ l)) text p))
+member_end_sound kind m ts [] r p h = nothing r h
+member_end_sound kind m ts (name w ∷ us) r p h = nothing r h
+member_end_sound kind m ts (number n ∷ us) r p h = nothing r h
+member_end_sound kind m ts (operator op ∷ us) r p h = nothing r h
+member_end_sound kind m ts (relation op ∷ us) r p h = nothing r h
+member_end_sound kind m ts (keyword k ∷ us) r p h = nothing r h
+member_end_sound kind m ts (mark open_brace ∷ us) r p h = nothing r h
+member_end_sound kind m ts (mark close_brace ∷ us) r p h = nothing r h
+member_end_sound kind m ts (mark close_square ∷ us) r p h = nothing r h
+member_end_sound kind m ts (mark open_round ∷ us) r p h = nothing r h
+member_end_sound kind m ts (mark close_round ∷ us) r p h = nothing r h
+member_end_sound kind m ts (mark colon ∷ us) r p h = nothing r h
+member_end_sound kind m ts (mark question ∷ us) r p h = nothing r h
+member_end_sound kind m ts (mark dot ∷ us) r p h = nothing r h
+member_end_sound kind m ts (mark equals ∷ us) r p h = nothing r h
+
+member_sound : (ts : List Token) (r : CMember × List Token) → member_at ts ≡ Some r → IsMember r.0 ts r.1
+unfolding member_at
+member_sound ts r h =
+    let a = seen_then (type_at ts) _ r h in
+    let b = seen_name a.1 _ r a.3 in
+    member_end_sound a.0 b.0 ts b.1 r (subst (λ l. IsType a.0 ts l) b.2 (type_sound ts (a.0, a.1) a.2)) b.3
+
+struct_end_sound : (ms : List CMember) (ts us : List Token) (r : CStruct × List Token) → Each IsMember ms ts us → struct_end ms us ≡ Some r
+    → IsStruct r.0 (keyword typedef_ ∷ keyword struct_ ∷ mark open_brace ∷ ts) r.1
+unfolding struct_end
+struct_end_sound [] ts us r p h = nothing r h
+struct_end_sound (m ∷ ms) ts us r p h =
+    let a = seen_mark close_brace us _ r h in
+    let b = seen_name a.0 _ r a.2 in
+    let c = seen_mark semicolon b.1 _ r b.3 in
+    given (λ q. IsStruct q.0 (keyword typedef_ ∷ keyword struct_ ∷ mark open_brace ∷ ts) q.1) (record { name = word b.0; members = m ∷ ms }) c.0 r c.2
+        (structure (subst (λ l. Each IsMember (m ∷ ms) ts l) (a.1 ∙ on _ (b.2 ∙ on _ c.1)) p))
+
+struct_sound : (d : ℕ) (ts : List Token) (r : CStruct × List Token) → struct_at d ts ≡ Some r → IsStruct r.0 ts r.1
+unfolding struct_at
+struct_sound d ts r h =
+    let a = seen_keyword typedef_ ts _ r h in
+    let b = seen_keyword struct_ a.0 _ r a.2 in
+    let c = seen_mark open_brace b.0 _ r b.2 in
+    let e = seen_then (each_at member_at d c.0) _ r c.2 in
+    subst (λ l. IsStruct r.0 l r.1) (sym (a.1 ∙ on _ (b.1 ∙ on _ c.1)))
+        (struct_end_sound e.0 c.0 e.1 r (each_sound IsMember member_at member_sound d c.0 (e.0, e.1) e.2) e.3)
+
+global_sound : (ts : List Token) (r : CGlobal × List Token) → global_at ts ≡ Some r → IsGlobal r.0 ts r.1
+unfolding global_at
+global_sound ts r h =
+    let a = seen_then (type_at ts) _ r h in
+    let b = seen_name a.1 _ r a.3 in
+    let c = seen_mark semicolon b.1 _ r b.3 in
+    given (λ q. IsGlobal q.0 ts q.1) (record { kind = a.0; name = word b.0 }) c.0 r c.2
+        (global (subst (λ l. IsType a.0 ts l) (b.2 ∙ on _ c.1) (type_sound ts (a.0, a.1) a.2)))
+
+seen_head : (ts rest : List Token) (w : List ℕ) → head_at ts ≡ Some (w, rest)
+    → ts ≡ keyword void_ ∷ name w ∷ mark open_round ∷ keyword void_ ∷ mark close_round ∷ rest
+unfolding head_at
+seen_head ts rest w h =
+    let a = seen_keyword void_ ts _ _ h in
+    let b = seen_name a.0 _ _ a.2 in
+    let c = seen_mark open_round b.1 _ _ b.3 in
+    let e = seen_keyword void_ c.0 _ _ c.2 in
+    let f = seen_mark close_round e.0 _ _ e.2 in
+    let same = Some-same (b.0, f.0) (w, rest) f.2 in
+    (a.1 ∙ on _ (b.2 ∙ on _ (c.1 ∙ on _ (e.1 ∙ on _ f.1))))
+        ∙ ap (λ p. keyword void_ ∷ name p.0 ∷ mark open_round ∷ keyword void_ ∷ mark close_round ∷ p.1) same
+
+event_sound : (ts : List Token) (r : Word × List Token) → event_at ts ≡ Some r → IsEvent r.0 ts r.1
+unfolding event_at
+event_sound ts r h =
+    let a = seen_then (head_at ts) _ r h in
+    let b = seen_mark semicolon a.1 _ r a.3 in
+    given (λ q. IsEvent q.0 ts q.1) (word a.0) b.0 r b.2
+        (subst (λ l. IsEvent (word a.0) l b.0)
+            (sym (seen_head ts a.1 a.0 a.2 ∙ ap (λ l. keyword void_ ∷ name a.0 ∷ mark open_round ∷ keyword void_ ∷ mark close_round ∷ l) b.1)) event)
+
+function_sound : (d : ℕ) (ts : List Token) (r : CFunction × List Token) → function_at d ts ≡ Some r → IsFunction r.0 ts r.1
+unfolding function_at
+function_sound d ts r h =
+    let a = seen_then (head_at ts) _ r h in
+    let b = seen_mark open_brace a.1 _ r a.3 in
+    let c = seen_then (each_at (statement_at d) d b.0) _ r b.2 in
+    let e = seen_mark close_brace c.1 _ r c.3 in
+    let text : ts ≡ keyword void_ ∷ name a.0 ∷ mark open_round ∷ keyword void_ ∷ mark close_round ∷ mark open_brace ∷ b.0 =
+        seen_head ts a.1 a.0 a.2 ∙ ap (λ l. keyword void_ ∷ name a.0 ∷ mark open_round ∷ keyword void_ ∷ mark close_round ∷ l) b.1 in
+    given (λ q. IsFunction q.0 ts q.1) (record { name = word a.0; body = c.0 }) e.0 r e.2
+        (subst (λ l. IsFunction (record { name = word a.0; body = c.0 }) l e.0) (sym text)
+            (function (subst (λ l. Each IsStatement c.0 b.0 l) e.1
+                (each_sound IsStatement (statement_at d) (statement_sound d) d b.0 (c.0, c.1) c.2))))
+
+program_sound : (d : ℕ) (ts : List Token) (P : CProgram) → program_at d ts ≡ Some (P, []) → IsProgram P ts
+unfolding program_at
+program_sound d ts P h =
+    let a = seen_then (each_at (struct_at d) d ts) _ _ h in
+    let b = seen_then (each_at global_at d a.1) _ _ a.3 in
+    let c = seen_then (each_at event_at d b.1) _ _ b.3 in
+    let e = seen_then (each_at (function_at d) d c.1) _ _ c.3 in
+    let same = Some-same (record { structs = a.0; globals = b.0; events = c.0; functions = e.0 }, e.1) (P, []) e.3 in
+    let functions = each_sound IsFunction (function_at d) (function_sound d) d c.1 (e.0, e.1) e.2 in
+    subst (λ Q. IsProgram Q ts) (ap (λ p. p.0) same)
+        (program (each_sound IsStruct (struct_at d) (struct_sound d) d ts (a.0, a.1) a.2)
+            (each_sound IsGlobal global_at global_sound d a.1 (b.0, b.1) b.2)
+            (each_sound IsEvent event_at event_sound d b.1 (c.0, c.1) c.2)
+            (subst (λ l. Each IsFunction e.0 c.1 l) (ap (λ p. p.1) same) functions))
+
+seen_whole : {A : Type 0} (o : Found A) (x : A) → whole o ≡ Some x → o ≡ Some (x, [])
+seen_whole None x h = nothing x h
+seen_whole (Some (y, [])) x h = ap (λ z. Some (z, [])) (Some-same y x h)
+seen_whole (Some (y, t ∷ ts)) x h = nothing x h
+
+-- what the reader finds the grammar has
+pub read_sound : (ts : List Token) (P : CProgram) → read_tokens ts ≡ Some P → IsProgram P ts
+unfolding read_tokens
+read_sound ts P h = program_sound (length ts) ts P (seen_whole (program_at (length ts) ts) P h)
