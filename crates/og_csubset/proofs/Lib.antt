@@ -3,3 +3,4 @@ mod Reading
 mod Seen
 mod Complete
 mod Sound
+mod Lexed
