@@ -317,7 +317,7 @@ next-begins bytes t rest h =
     rw (h.joined, c, token_found t rest h.is_token h.follows)
 
 -- where only white space is left no token stands
-next-blank : (bytes : List ℕ) → list_all is_space bytes ≡ true → next_token bytes ≡ None
+pub next-blank : (bytes : List ℕ) → list_all is_space bytes ≡ true → next_token bytes ≡ None
 unfolding next_token first_token
 next-blank bytes h =
     let c : cut is_space (bytes ++ []) ≡ (bytes, []) = cut-append is_space bytes [] h tt in

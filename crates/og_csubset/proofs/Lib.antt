@@ -4,3 +4,4 @@ mod Seen
 mod Complete
 mod Sound
 mod Lexed
+mod Text
