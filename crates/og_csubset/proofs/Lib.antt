@@ -5,3 +5,4 @@ mod Complete
 mod Sound
 mod Lexed
 mod Text
+mod Examples

@@ -1,3 +1,4 @@
 pub mod Tokens
 pub mod Spelling
 pub mod Nesting
+pub mod Texts
