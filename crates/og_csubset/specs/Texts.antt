@@ -29,6 +29,20 @@ number_global g = record { kind = Int64; name = word g }
 abbrev pub variable : List ℕ → CPlace
 variable v = record { name = word v; path = [] }
 
+-- a text of one function `f` with these statements, and a program of it
+abbrev pub statements_text : List ℕ → List ℕ
+statements_text statements = lines (codes "#include <stdint.h>" ∷ (codes "void f(void) {" ++ (statements ++ codes "}")) ∷ [])
+
+abbrev pub doing : List CStmt → CProgram
+doing statements = record { structs = []; globals = []; events = []; functions = record { name = word (codes "f"); body = statements } ∷ [] }
+
+-- `x = ..;`
+abbrev pub assigning : CExpr → CProgram
+assigning e = doing (Assign (variable (codes "x")) e ∷ [])
+
+abbrev pub number_of : List ℕ → CExpr
+number_of v = Read (variable v)
+
 -- A small program by hand: `on_go` counts in `k` and marks the places of an array, which is too short for the third.
 abbrev pub counting_text : List ℕ
 counting_text = lines (codes "#include <stdint.h>"
@@ -53,3 +67,33 @@ counting = record {
           ∷ Assign (variable (codes "k")) (Op Add (Read (variable (codes "k"))) (Number (pos 1)))
           ∷ Call (word (codes "o_done")) ∷ Call (word (codes "o_done")) ∷ [] } ∷ [];
 }
+
+-- every form of statement
+abbrev pub forms_text : List ℕ
+forms_text = lines (codes "#include <stdint.h>"
+    ∷ codes "void f(void)"
+    ∷ codes "{"
+    ∷ codes "  l: ;"
+    ∷ codes "  if (a < b) goto l;"
+    ∷ codes "  switch (a) { case INT64_C(1): goto l; case -INT64_C(2): goto m;"
+    ∷ codes "    case (-INT64_C(9223372036854775807) - INT64_C(1)): goto l; default: goto m; }"
+    ∷ codes "  x = (a == b ? a : -b);"
+    ∷ codes "  m:;"
+    ∷ codes "  g();"
+    ∷ codes "  goto l;"
+    ∷ codes "  return;"
+    ∷ codes "}" ∷ [])
+
+abbrev pub forms : CProgram
+forms = doing (Label (word (codes "l"))
+    ∷ IfGoto (record { op = Lt; left = number_of (codes "a"); right = number_of (codes "b") }) (word (codes "l"))
+    ∷ Switch (number_of (codes "a"))
+        (record { value = pos 1; label = word (codes "l") } ∷ record { value = negsuc 1; label = word (codes "m") }
+            ∷ record { value = least; label = word (codes "l") } ∷ [])
+        (word (codes "m"))
+    ∷ Assign (variable (codes "x"))
+        (Pick (record { op = Eq; left = number_of (codes "a"); right = number_of (codes "b") }) (number_of (codes "a")) (Minus (number_of (codes "b"))))
+    ∷ Label (word (codes "m"))
+    ∷ Call (word (codes "g"))
+    ∷ Goto (word (codes "l"))
+    ∷ Return ∷ [])
