@@ -324,13 +324,13 @@ next-blank bytes h =
     let e : cut is_space bytes ≡ (bytes, []) = rw append-nil at c in
     rw e
 
-same_first : (bytes : List ℕ) (t u : Token) (rest more : List ℕ) → Begins bytes t rest → Begins bytes u more → (t ≡ u) × (rest ≡ more)
+pub same_first : (bytes : List ℕ) (t u : Token) (rest more : List ℕ) → Begins bytes t rest → Begins bytes u more → (t ≡ u) × (rest ≡ more)
 same_first bytes t u rest more h k =
     let e : Some (t, rest) ≡ Some (u, more) = sym (next-begins bytes t rest h) ∙ next-begins bytes u more k in
     let both : Option (Token × List ℕ) → Token × List ℕ = λ o. unwrap_or o (t, rest) in
     (ap (λ o. (both o).0) e, ap (λ o. (both o).1) e)
 
-nothing_first : (bytes : List ℕ) (t : Token) (rest : List ℕ) → list_all is_space bytes ≡ true → Begins bytes t rest → ⊥
+pub nothing_first : (bytes : List ℕ) (t : Token) (rest : List ℕ) → list_all is_space bytes ≡ true → Begins bytes t rest → ⊥
 nothing_first bytes t rest blank h =
     let e : ◌≡◌ {A = Option (Token × List ℕ)} None (Some (t, rest)) = sym (next-blank bytes blank) ∙ next-begins bytes t rest h in cc
 

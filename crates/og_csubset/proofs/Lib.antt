@@ -6,3 +6,4 @@ mod Sound
 mod Lexed
 mod Text
 mod Examples
+mod Nested
