@@ -4,15 +4,16 @@ use Rattle.std.specs.Fmt.{digits}
 use Rattle.og_csubset.specs.declared.CProgram.{CProgram}
 use Rattle.og_csubset.specs.declared.CExpr.{CExpr, Number, Minus, Op}
 use Rattle.og_csubset.specs.declared.COp.TheVariants.{Add, Sub, Mul, Div, Rem}
+use Rattle.og_csubset.specs.Nesting.{HasNesting}
 use Rattle.og_csubset.specs.Spelling.{CSpells, least}
-use Rattle.og_csubset.specs.Texts.{lines, statements_text, assigning, number_of, counting, counting_text, forms, forms_text}
+use Rattle.og_csubset.specs.Texts.{lines, in_brackets, statements_text, assigning, number_of, counting, counting_text, forms, forms_text}
 use Rattle.og_csubset.proofs.Lexing.{cut, keyword_of, word_token, number_token, sign_token, first_token, next_token}
 use Rattle.og_csubset.proofs.Reading.{bracket_end, path_at, operand_at, signed_at, product_rest, product_at, sum_rest, sum_at, number_at, test_at, each_at, constant_at, case_at, named_at, goto_at, if_at, switch_at, return_at, statement_at, type_at, member_end, member_at, struct_end, struct_at, global_at, head_at, event_at, function_at, program_at, read_tokens}
-use Rattle.og_csubset.proofs.Text.{lex, behind, read_text, CSpells-read, spelt_by_none}
+use Rattle.og_csubset.proofs.Text.{lex, behind, tokens_of, read_text, CSpells-read, spelt_by_none, nests_by}
 
 -- the reader with all that it computes by
 pub computed : List ℕ → Option CProgram
-unfolding digits cut keyword_of word_token number_token sign_token first_token next_token bracket_end path_at operand_at signed_at product_rest product_at sum_rest sum_at number_at test_at each_at constant_at case_at named_at goto_at if_at switch_at return_at statement_at type_at member_end member_at struct_end struct_at global_at head_at event_at function_at program_at read_tokens lex behind read_text
+unfolding digits cut keyword_of word_token number_token sign_token first_token next_token bracket_end path_at operand_at signed_at product_rest product_at sum_rest sum_at number_at test_at each_at constant_at case_at named_at goto_at if_at switch_at return_at statement_at type_at member_end member_at struct_end struct_at global_at head_at event_at function_at program_at read_tokens lex behind tokens_of read_text
 computed text = read_text text
 
 pub whole_text_counting : CSpells counting counting_text
@@ -150,3 +151,55 @@ refused_size_zero = spelt_by_none (lines (codes "#include <stdint.h>" ∷ codes 
 pub refused_size_past : (P : CProgram) → CSpells P (lines (codes "#include <stdint.h>" ∷ codes "typedef struct { int64_t e[65537]; } A;" ∷ [])) → ⊥
 unfolding computed
 refused_size_past = spelt_by_none (lines (codes "#include <stdint.h>" ∷ codes "typedef struct { int64_t e[65537]; } A;" ∷ [])) refl
+
+pub nesting_counts_assignment : HasNesting (statements_text (codes "x = a;")) 1
+unfolding computed
+nesting_counts_assignment = nests_by (statements_text (codes "x = a;")) 1 refl
+
+pub nesting_counts_operators : HasNesting (statements_text (codes "x = a + b - c;")) 3
+unfolding computed
+nesting_counts_operators = nests_by (statements_text (codes "x = a + b - c;")) 3 refl
+
+pub nesting_counts_literal : HasNesting (statements_text (codes "x = INT64_C(1);")) 2
+unfolding computed
+nesting_counts_literal = nests_by (statements_text (codes "x = INT64_C(1);")) 2 refl
+
+pub nesting_counts_target : HasNesting (statements_text (codes "w.e[k] = a;")) 4
+unfolding computed
+nesting_counts_target = nests_by (statements_text (codes "w.e[k] = a;")) 4 refl
+
+pub nesting_counts_both_sides : HasNesting (statements_text (codes "w.e[k] = w.e[k];")) 4
+unfolding computed
+nesting_counts_both_sides = nests_by (statements_text (codes "w.e[k] = w.e[k];")) 4 refl
+
+pub nesting_counts_selectors_stay : HasNesting (statements_text (codes "x = w.e[k] + a + b;")) 5
+unfolding computed
+nesting_counts_selectors_stay = nests_by (statements_text (codes "x = w.e[k] + a + b;")) 5 refl
+
+pub nesting_counts_bracket_ends : HasNesting (statements_text (codes "x = (a + b) * c;")) 3
+unfolding computed
+nesting_counts_bracket_ends = nests_by (statements_text (codes "x = (a + b) * c;")) 3 refl
+
+pub nesting_counts_test : HasNesting (statements_text (codes "if (a < b) goto l;")) 3
+unfolding computed
+nesting_counts_test = nests_by (statements_text (codes "if (a < b) goto l;")) 3 refl
+
+pub nesting_counts_choice : HasNesting (statements_text (codes "x = (a < b ? c : -d);")) 4
+unfolding computed
+nesting_counts_choice = nests_by (statements_text (codes "x = (a < b ? c : -d);")) 4 refl
+
+pub nesting_counts_constants : HasNesting (statements_text (codes "switch (a) { case -INT64_C(2): goto l; case -INT64_C(3): goto l; default: goto l; }")) 4
+unfolding computed
+nesting_counts_constants = nests_by (statements_text (codes "switch (a) { case -INT64_C(2): goto l; case -INT64_C(3): goto l; default: goto l; }")) 4 refl
+
+pub nesting_counts_whole_text : HasNesting counting_text 4
+unfolding computed
+nesting_counts_whole_text = nests_by counting_text 4 refl
+
+pub nesting_counts_at_the_limit : HasNesting (statements_text (codes "x = " ++ (in_brackets 255 (codes "a") ++ codes ";"))) 256
+unfolding computed
+nesting_counts_at_the_limit = nests_by (statements_text (codes "x = " ++ (in_brackets 255 (codes "a") ++ codes ";"))) 256 refl
+
+pub nesting_counts_past_the_limit : HasNesting (statements_text (codes "x = " ++ (in_brackets 256 (codes "a") ++ codes ";"))) 257
+unfolding computed
+nesting_counts_past_the_limit = nests_by (statements_text (codes "x = " ++ (in_brackets 256 (codes "a") ++ codes ";"))) 257 refl

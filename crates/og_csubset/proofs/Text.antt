@@ -4,6 +4,7 @@ use Rattle.std.specs.List.{list_all}
 use Rattle.std.proofs.lemmas.Bool.{true≢false, cases_Bool}
 use Rattle.og_csubset.specs.declared.CProgram.{CProgram}
 use Rattle.og_csubset.specs.Tokens.{Token, spelling, is_space, IsToken, Begins, Cuts, Lexes, HasTokens, first_line}
+use Rattle.og_csubset.specs.Nesting.{nesting, HasNesting}
 use Rattle.og_csubset.specs.Spelling.{IsProgram, CSpells}
 use Rattle.og_csubset.proofs.Lexing.{first_token, next_token, next-begins, next-blank, token_found}
 use Rattle.og_csubset.proofs.Lexed.{begins-next}
@@ -97,29 +98,50 @@ unfolding behind
 behind_complete [] rest = refl
 behind_complete (p ∷ ps) rest = rw (eq-eqb p p refl, behind_complete ps rest)
 
+-- the tokens of the text
+unfoldable pub tokens_of : List ℕ → Option (List Token)
+tokens_of text = option_and_then (λ body. lex (length body) body) (behind first_line text)
+
 -- the program that the text spells
 unfoldable pub read_text : List ℕ → Option CProgram
-read_text text = option_and_then (λ body. option_and_then read_tokens (lex (length body) body)) (behind first_line text)
+read_text text = option_and_then read_tokens (tokens_of text)
 
 seen_and_then : {A B : Type 0} (g : A → Option B) (o : Option A) (y : B) → option_and_then g o ≡ Some y → (x : A) × (o ≡ Some x) × (g x ≡ Some y)
 seen_and_then g None y h = nothing y h
 seen_and_then g (Some x) y h = (x, refl, h)
 
+pub HasTokens-lexed : (tokens : List Token) (text : List ℕ) → tokens_of text ≡ Some tokens → HasTokens tokens text
+unfolding tokens_of
+HasTokens-lexed tokens text h =
+    let a = seen_and_then (λ body. lex (length body) body) (behind first_line text) tokens h in
+    (a.0, behind_sound first_line text a.0 a.1, lex_sound (length a.0) a.0 tokens a.2)
+
+pub lexed-HasTokens : (tokens : List Token) (text : List ℕ) → HasTokens tokens text → tokens_of text ≡ Some tokens
+unfolding tokens_of
+lexed-HasTokens tokens text h =
+    let start : behind first_line text ≡ Some h.0 = ap (λ l. behind first_line l) h.1 ∙ behind_complete first_line h.0 in
+    let found : lex (length h.0) h.0 ≡ Some tokens = lex_complete (length h.0) tokens h.0 h.2 (omega arith) in
+    rw (start, found)
+
 pub CSpells-read : (P : CProgram) (text : List ℕ) → read_text text ≡ Some P → CSpells P text
 unfolding read_text
 CSpells-read P text h =
-    let a = seen_and_then (λ body. option_and_then read_tokens (lex (length body) body)) (behind first_line text) P h in
-    let b = seen_and_then read_tokens (lex (length a.0) a.0) P a.2 in
-    (b.0, (a.0, behind_sound first_line text a.0 a.1, lex_sound (length a.0) a.0 b.0 b.1), read_sound b.0 P b.2)
+    let a = seen_and_then read_tokens (tokens_of text) P h in
+    (a.0, HasTokens-lexed a.0 text a.1, read_sound a.0 P a.2)
 
 pub read-CSpells : (P : CProgram) (text : List ℕ) → CSpells P text → read_text text ≡ Some P
 unfolding read_text
-read-CSpells P text h =
-    let body = h.1.0 in
-    let start : behind first_line text ≡ Some body = ap (λ l. behind first_line l) h.1.1 ∙ behind_complete first_line body in
-    let tokens : lex (length body) body ≡ Some h.0 = lex_complete (length body) h.0 body h.1.2 (omega arith) in
-    rw (start, tokens, read_complete h.2)
+read-CSpells P text h = rw (lexed-HasTokens h.0 text h.1, read_complete h.2)
 
 -- a text that the reader refuses no program spells
 pub spelt_by_none : (text : List ℕ) → read_text text ≡ None → (P : CProgram) → CSpells P text → ⊥
 spelt_by_none text h P spelt = nothing P (sym h ∙ read-CSpells P text spelt)
+
+-- the nesting of a text, by its tokens
+pub nests : (text : List ℕ) (tokens : List Token) (depth : ℕ) → tokens_of text ≡ Some tokens → nesting tokens ≡ depth → HasNesting text depth
+nests text tokens depth h e = (tokens, HasTokens-lexed tokens text h, e)
+
+-- the same, computed
+pub nests_by : (text : List ℕ) (depth : ℕ) → option_map nesting (tokens_of text) ≡ Some depth → HasNesting text depth
+nests_by text depth h =
+    let a = seen_map nesting (tokens_of text) depth h in nests text a.0 depth a.1 a.2

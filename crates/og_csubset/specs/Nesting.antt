@@ -95,6 +95,10 @@ first_past limit tokens = first_past_from limit outermost tokens
 abbrev pub IsWithinNesting : ℕ → List ℕ → Type 0
 IsWithinNesting limit text = (tokens : List Token) × HasTokens tokens text × (nesting tokens ≤ limit)
 
+-- the text is one of tokens whose greatest nesting is this
+abbrev pub HasNesting : List ℕ → ℕ → Type 0
+HasNesting text depth = (tokens : List Token) × HasTokens tokens text × (nesting tokens ≡ depth)
+
 -- The first token whose nesting passes the limit begins right behind the bytes `before`, whatever stands behind it.
 pub record PassesNesting (limit : ℕ) (text before : List ℕ) : Type 0 where
   pub tokens : List Token

@@ -1,5 +1,5 @@
 -- Texts of the C subset, with the programs that they spell.
-use Rattle.std.specs.Prelude.{ℕ, ◌+◌, ℤ, pos, negsuc, List, [], ◌∷◌, ◌++◌, codes, Option, Some, None}
+use Rattle.std.specs.Prelude.{ℕ, zero, suc, ◌+◌, ℤ, pos, negsuc, List, [], ◌∷◌, ◌++◌, codes, Option, Some, None}
 use Rattle.og_csubset.specs.declared.CProgram.{CProgram}
 use Rattle.og_csubset.specs.declared.CStruct.{CStruct}
 use Rattle.og_csubset.specs.declared.CMember.{CMember}
@@ -42,6 +42,11 @@ assigning e = doing (Assign (variable (codes "x")) e ∷ [])
 
 abbrev pub number_of : List ℕ → CExpr
 number_of v = Read (variable v)
+
+-- this many brackets round it
+abbrev pub in_brackets : ℕ → List ℕ → List ℕ
+in_brackets zero text = text
+in_brackets (suc n) text = 40 ∷ (in_brackets n text ++ 41 ∷ [])
 
 -- A small program by hand: `on_go` counts in `k` and marks the places of an array, which is too short for the third.
 abbrev pub counting_text : List ℕ

@@ -1,11 +1,13 @@
 //! Laws of the texts of the C subset. Nothing calls these functions: each states a law of the definitions as its contract.
 
-ghost use Rattle.std.specs.Prelude.{◌≡◌, ℕ, ℤ, pos, negsuc, List, [], ◌∷◌, ◌++◌, codes};
+ghost use Rattle.std.specs.Prelude.{◌≡◌, ◌<◌, ℕ, ℤ, pos, negsuc, List, [], ◌∷◌, ◌++◌, codes};
 ghost use Rattle.og_csubset.specs.declared.CProgram.{CProgram as Program};
 ghost use Rattle.og_csubset.specs.declared.CExpr.{Number, Minus, Op};
 ghost use Rattle.og_csubset.specs.declared.COp.TheVariants.{Add, Sub, Mul, Div, Rem};
+ghost use Rattle.og_csubset.specs.Tokens.{Token, HasTokens};
+ghost use Rattle.og_csubset.specs.Nesting.{nesting, HasNesting, IsWithinNesting, PassesNesting};
 ghost use Rattle.og_csubset.specs.Spelling.{CSpells, least};
-ghost use Rattle.og_csubset.specs.Texts.{lines, statements_text, assigning, number_of, counting, counting_text, forms, forms_text};
+ghost use Rattle.og_csubset.specs.Texts.{lines, in_brackets, statements_text, assigning, number_of, counting, counting_text, forms, forms_text};
 
 /// A text is spelt by at most one program.
 pub fn one_program()
@@ -74,5 +76,38 @@ pub fn refused()
     ensures no_member { (P : Program) → CSpells P (lines (codes "#include <stdint.h>" ∷ codes "typedef struct { } A;" ∷ [])) → ⊥ }
     ensures size_zero { (P : Program) → CSpells P (lines (codes "#include <stdint.h>" ∷ codes "typedef struct { int64_t e[0]; } A;" ∷ [])) → ⊥ }
     ensures size_past { (P : Program) → CSpells P (lines (codes "#include <stdint.h>" ∷ codes "typedef struct { int64_t e[65537]; } A;" ∷ [])) → ⊥ }
+{
+}
+
+/// The greatest nesting of some texts, counted by hand. The braces of the function count one everywhere.
+pub fn nesting_counts()
+    ensures assignment { HasNesting (statements_text (codes "x = a;")) 1 }
+    ensures operators { HasNesting (statements_text (codes "x = a + b - c;")) 3 }
+    ensures literal { HasNesting (statements_text (codes "x = INT64_C(1);")) 2 }
+    ensures target { HasNesting (statements_text (codes "w.e[k] = a;")) 4 }
+    ensures both_sides { HasNesting (statements_text (codes "w.e[k] = w.e[k];")) 4 }
+    ensures selectors_stay { HasNesting (statements_text (codes "x = w.e[k] + a + b;")) 5 }
+    ensures bracket_ends { HasNesting (statements_text (codes "x = (a + b) * c;")) 3 }
+    ensures test { HasNesting (statements_text (codes "if (a < b) goto l;")) 3 }
+    ensures choice { HasNesting (statements_text (codes "x = (a < b ? c : -d);")) 4 }
+    ensures constants { HasNesting (statements_text (codes "switch (a) { case -INT64_C(2): goto l; case -INT64_C(3): goto l; default: goto l; }")) 4 }
+    ensures whole_text { HasNesting counting_text 4 }
+    ensures at_the_limit { HasNesting (statements_text (codes "x = " ++ (in_brackets 255 (codes "a") ++ codes ";"))) 256 }
+    ensures past_the_limit { HasNesting (statements_text (codes "x = " ++ (in_brackets 256 (codes "a") ++ codes ";"))) 257 }
+{
+}
+
+/// A text nests too deep at one place, where its first token stands that passes the limit, or stays within it.
+pub fn one_deep_place()
+    ensures unique { (limit : ℕ) (text before other : List ℕ) → PassesNesting limit text before → PassesNesting limit text other → before ≡ other }
+    ensures no_place { (limit : ℕ) (text before : List ℕ) → PassesNesting limit text before → IsWithinNesting limit text → ⊥ }
+    ensures place { (limit : ℕ) (text : List ℕ) (tokens : List Token) → HasTokens tokens text → limit < nesting tokens
+        → (before : List ℕ) × PassesNesting limit text before }
+{
+}
+
+/// A text has one list of tokens at most.
+pub fn one_list_of_tokens()
+    ensures { (tokens others : List Token) (text : List ℕ) → HasTokens tokens text → HasTokens others text → tokens ≡ others }
 {
 }
