@@ -7,3 +7,5 @@ mod Lexed
 mod Text
 mod Examples
 mod Nested
+mod Sizes
+mod PlainTexts

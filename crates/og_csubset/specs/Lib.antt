@@ -2,3 +2,4 @@ pub mod Tokens
 pub mod Spelling
 pub mod Nesting
 pub mod Texts
+pub mod Plain
