@@ -12,3 +12,5 @@ pub mod Nesting
 pub mod Fair
 pub mod Examples
 pub mod FlatExamples
+pub mod Texts
+pub mod Plain
