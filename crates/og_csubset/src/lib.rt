@@ -122,3 +122,18 @@ pub enum CRel {
     Gt,
     Ge,
 }
+
+/// The rules that a program must satisfy before it can be run over a model, in the order in which they are tried:
+/// K3 a name that stands twice, K4 a struct type that is used before it is defined, K5 a place or a number of the wrong
+/// kind, K6 a label or a case that is missing or stands twice, K7 a call of nothing that is there, K8 too many cells,
+/// K9 an interface that is not the model's.
+#[derive(Clone, Copy, Debug, PartialEq, Eq)]
+pub enum LoadRule {
+    K3,
+    K4,
+    K5,
+    K6,
+    K7,
+    K8,
+    K9,
+}

@@ -1,1 +1,10 @@
 pub mod Shown
+pub mod RegionTypes
+pub mod Expressions
+pub mod Units
+pub mod Actions
+pub mod Configuration
+pub mod Choice
+pub mod Moving
+pub mod Settling
+pub mod Run
