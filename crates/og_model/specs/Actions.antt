@@ -38,9 +38,9 @@ use Rattle.og_model.specs.declared.EndKind.TheVariants as EndKinds
 use Rattle.og_model.specs.declared.Body.{Body}
 use Rattle.og_model.specs.declared.Proc.{Proc}
 use Rattle.og_model.specs.declared.Model.{Model}
-use Rattle.og_model.specs.Expressions.{Location, OfCall, Passed, Copied, Shared, Store, Frame, location_of, no_frame, read, write, put, number_of, items_of, on_value, walk, eval, sort_at, fits}
+use Rattle.og_model.specs.Expressions.{Passed, Copied, Shared, Store, Frame, location_of, no_frame, write, put, number_of, items_of, on_value, walk, eval, sort_at, fits}
 use Rattle.og_model.specs.Shown as Shown
-use Rattle.og_model.specs.Units.{State, Outcome, Done, Stop, Ran, Doing, ends, gives, runs_out, showing, then_do, spend, or_fault, storing, timing}
+use Rattle.og_model.specs.Units.{Stop, Doing, ends, gives, runs_out, showing, then_do, spend, or_fault, storing, timing}
 
 -- ---- pieces of blocks
 
@@ -103,7 +103,7 @@ abbrev pub tail_of_steps : Tails → NameId → List Step → Option Ending → 
 tail_of_steps inner l [] end = tail_of_end l end
 tail_of_steps inner l (x ∷ xs) end =
     cond (is_name l x.label) (Some (record { steps = x ∷ xs; end = end } ∷ []))
-        (option_or (tail_of_action inner (record { steps = xs; end = end }) (out-Action x.action)) (tail_of_steps inner l xs end))
+    (option_or (tail_of_action inner (record { steps = xs; end = end }) (out-Action x.action)) (tail_of_steps inner l xs end))
 
 -- from the label in a block of at most this depth
 abbrev pub tail_within : ℕ → NameId → Block → Option Remainder
@@ -273,8 +273,8 @@ abbrev pub called_with : Going → Option Proc → List Passed → Doing (Option
 called_with go None ps n s = runs_out n s
 called_with go (Some p) ps n s =
     then_do (storing (with_call (own_values ps p.locals) s.store)
-            (going_at go (setting_of p (length s.store.calls) ps) (start_of p.bodies)))
-        (returned (length s.store.calls)) n s
+    (going_at go (setting_of p (length s.store.calls) ps) (start_of p.bodies)))
+    (returned (length s.store.calls)) n s
 
 abbrev pub called : Going → Model → ℕ → List Passed → Doing (Option Value)
 called go M p ps = called_with go (slice_get M.procs p) ps

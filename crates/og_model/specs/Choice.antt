@@ -2,7 +2,7 @@
 -- out of a state aggregation (Z.102 section 11.11); partitions are looked at in the order of the text. Departing from
 -- Z.100, no two partitions of an aggregation mention the same signal or timer, so that at most one of them answers.
 -- Where no state has a handler the stimulus is discarded (the implicit transition of Z.101 section 11.8).
-use Rattle.std.specs.Prelude.{ℕ, zero, suc, Bool, true, false, cond, List, [], ◌∷◌, nat_eq, Option, Some, None}
+use Rattle.std.specs.Prelude.{ℕ, suc, Bool, false, cond, List, [], ◌∷◌, nat_eq, Option, Some, None}
 use Rattle.std.specs.Option.{option_map, option_or}
 use Rattle.og_model.specs.declared.Handler.{Handler}
 use Rattle.og_model.specs.declared.Trigger.{Trigger}
@@ -12,7 +12,7 @@ use Rattle.og_model.specs.declared.StateDef.{StateDef}
 use Rattle.og_model.specs.declared.Partition.{Partition, out-Partition}
 use Rattle.og_model.specs.declared.StateKind.TheOpen.{Composite, Aggregation}
 use Rattle.og_model.specs.Shown.{Stimulus, Signal, Expiry}
-use Rattle.og_model.specs.Configuration.{Active, Inside, Parts, At, Basic, Comp, Agg, NoParts, Going, Finished, Kind, kind_of, state_at}
+use Rattle.og_model.specs.Configuration.{Active, Inside, Parts, At, Comp, Agg, Going, Finished, Kind, kind_of, state_at}
 
 -- an active state: the one of this scope, or one inside it, in a composite state or in a partition of an aggregation
 pub data Address : Type 0 where

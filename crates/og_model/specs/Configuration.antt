@@ -9,7 +9,7 @@ use Rattle.og_model.specs.declared.Scope.{Scope, out-Scope}
 use Rattle.og_model.specs.declared.StateDef.{StateDef}
 use Rattle.og_model.specs.declared.Partition.{Partition, out-Partition}
 use Rattle.og_model.specs.declared.StateKind.{StateKind, StateKind-F, out-StateKind}
-use Rattle.og_model.specs.declared.StateKind.TheOpen.{Composite, Aggregation, Basic as Plain}
+use Rattle.og_model.specs.declared.StateKind.TheOpen.{Composite, Aggregation}
 
 mutual
   -- the active state of a scope, by its number, with what is active inside it

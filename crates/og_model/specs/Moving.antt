@@ -4,7 +4,7 @@
 -- whose scope returns is completed: its `exit` runs and then its CONNECT of that exit point. A partition that returns is
 -- done, and where all are done the aggregation is completed. Entering a state or a partition costs a unit, nothing else
 -- here does.
-use Rattle.std.specs.Prelude.{ℕ, zero, suc, Bool, true, false, cond, List, [], ◌∷◌, slice_get, find, nat_eq, Option, Some, None, Ok, Err, ⊤}
+use Rattle.std.specs.Prelude.{ℕ, zero, suc, Bool, true, false, List, [], ◌∷◌, slice_get, find, nat_eq, Option, Some, None, ⊤}
 use Rattle.std.specs.Option.{option_map, option_and_then}
 use Rattle.og_base.specs.declared.Place.{Place}
 use Rattle.og_names.specs.declared.NameId.{NameId}

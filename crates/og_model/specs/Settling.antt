@@ -100,7 +100,7 @@ abbrev pub first_of : Model → (Active → Doing Active) → Active → List Co
 first_of M again a [] n s = gives a n s
 first_of M again a (x ∷ xs) n s =
     spend (or_fault x.place (eval no_frame s.store x.condition) (λ v.
-        when (truth_of v) (then_do (fire M x.address x.body a) again) (first_of M again a xs))) n s
+    when (truth_of v) (then_do (fire M x.address x.body a) again) (first_of M again a xs))) n s
 
 -- settles, where the units are at most the fuel
 abbrev pub settle_by : ℕ → Model → Active → Doing Active

@@ -20,14 +20,28 @@ pub struct Part {
 #[derive(Debug, Drop)]
 pub enum Sort {
     /// The whole numbers from `lo` to `hi`.
-    Int { lo: i64, hi: i64 },
+    Int {
+        lo: i64,
+        hi: i64,
+    },
     Bool,
     /// The names of the enumerators in the order of the text, and the number of each (X.680 section 20).
-    Enumerated { names: Items<NameId>, numbers: Items<i64> },
-    Sequence { parts: Items<Part> },
-    Choice { parts: Items<Part> },
+    Enumerated {
+        names: Items<NameId>,
+        numbers: Items<i64>,
+    },
+    Sequence {
+        parts: Items<Part>,
+    },
+    Choice {
+        parts: Items<Part>,
+    },
     /// A sequence of `lo` to `hi` items of one type.
-    SeqOf { lo: u32, hi: u32, item: TypeId },
+    SeqOf {
+        lo: u32,
+        hi: u32,
+        item: TypeId,
+    },
     /// A type that `og` reads and does not support.
     Opaque,
 }
