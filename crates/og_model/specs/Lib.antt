@@ -8,3 +8,5 @@ pub mod Choice
 pub mod Moving
 pub mod Settling
 pub mod Run
+pub mod Regions
+pub mod Size

@@ -1,6 +1,10 @@
 //! The resolved model of a process: its data, its procedures and its nested states.
 #![tactic(auto)]
 
+mod regions;
+
+pub use regions::{Leaf, Region};
+
 use og_base::Place;
 use og_names::{NameId, Names};
 use og_types::{TypeId, TypeTable, Value};
