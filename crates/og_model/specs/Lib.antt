@@ -10,3 +10,8 @@ pub mod Settling
 pub mod Run
 pub mod Regions
 pub mod Size
+pub mod Forms
+pub mod WellSorted
+pub mod Resolved
+pub mod Rules
+pub mod WellFormed
