@@ -15,3 +15,4 @@ pub mod WellSorted
 pub mod Resolved
 pub mod Rules
 pub mod WellFormed
+pub mod Sample
