@@ -1,5 +1,5 @@
 -- What is known of a file while it is read piece by piece.
-use Rattle.std.proofs.Common.{◌≡◌, ℕ, ◌+◌, ◌-◌, ◌<◌, ◌≤◌, List, [], ◌∷◌, ◌++◌, Option, Some, None, IfSome, length, take, drop, sym, ◌∙◌, ap, refl, arith, subst, length-append, length-drop}
+use Rattle.std.proofs.Common.{◌≡◌, ℕ, ◌+◌, ◌<◌, ◌≤◌, List, [], ◌∷◌, ◌++◌, Option, Some, None, IfSome, length, take, drop, sym, ◌∙◌, ap, refl, arith, subst, length-append, length-drop}
 use Rattle.std.proofs.Math.Seq.{take-add, take-length}
 use Rattle.std.proofs.lemmas.List.{take_at, length-take-le}
 use Rattle.og_base.specs.Store.{Files, GivesPiece, IsPiece, Holds, HoldsMore}

@@ -1,5 +1,5 @@
 -- What was written while bytes are written piece by piece.
-use Rattle.std.proofs.Common.{◌≡◌, ℕ, List, [], ◌∷◌, ◌++◌, Option, Some, None, length, take, drop, sym, ◌∙◌, ap, refl, append_assoc}
+use Rattle.std.proofs.Common.{◌≡◌, ℕ, List, [], ◌++◌, Option, Some, None, take, drop, sym, ◌∙◌, ap, refl, append_assoc}
 use Rattle.std.proofs.lemmas.List.{take-append-drop, append-nil}
 use Rattle.og_base.specs.Sink.{grown, WroteFront}
 
@@ -8,7 +8,6 @@ pub record WrittenSoFar (bytes rest : List ℕ) (old new : Option (List ℕ)) : 
   pub front : List ℕ
   pub whole : bytes ≡ front ++ rest
   pub taken : new ≡ grown front old
-
 
 grown_twice : (xs ys : List ℕ) (old : Option (List ℕ)) → grown ys (grown xs old) ≡ grown (xs ++ ys) old
 grown_twice xs ys None = refl

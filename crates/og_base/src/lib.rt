@@ -1,6 +1,7 @@
 //! Places and rules of model files, and the store and the sink through which `og` reaches the outside.
 #![tactic(auto)]
 
+mod conversions;
 mod memory;
 mod read;
 mod sink;
@@ -81,3 +82,6 @@ pub enum ModelError {
     Broken(Violation),
     NoMemory,
 }
+
+#[cfg(test)]
+mod tests;

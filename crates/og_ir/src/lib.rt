@@ -28,10 +28,13 @@ pub enum SlotSort {
     Shaped(TypeId),
 }
 
+/// A function. `labels` has for each instruction a word that tells a reader of the printed text what the code there is
+/// for, or no bytes; it means nothing else.
 #[derive(Drop)]
 pub struct FlatFn {
     pub name: Word,
     pub code: Items<Instr>,
+    pub labels: Items<Word>,
 }
 
 /// An instruction. Places of jumps are numbers in the code of the function, those of calls are numbers of functions.

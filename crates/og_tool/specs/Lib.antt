@@ -1,1 +1,3 @@
 pub mod Grammar
+pub mod Rules
+pub mod Files

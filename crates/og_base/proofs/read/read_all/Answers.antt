@@ -1,4 +1,4 @@
-use Rattle.std.proofs.Common.{◌≡◌, ◌≤◌, ◌<◌, ◌++◌, ◌∙◌, length, arith}
+use Rattle.std.proofs.Common.{◌≡◌, ◌∙◌, length, arith}
 use Rattle.og_base.proofs.Reading.{next_read, shown_whole}
 use Rattle.og_base.proofs.read.read_all.Goals as goal
 

@@ -1,6 +1,5 @@
-use Rattle.std.proofs.Common.{◌≡◌, ◌≤◌, ◌∙◌, ap, drop, arith, subst, sym, rules}
-use Rattle.og_base.specs.Sink.{grown}
-use Rattle.og_base.proofs.Writing.{WrittenSoFar, more_written}
+use Rattle.std.proofs.Common.{arith}
+use Rattle.og_base.proofs.Writing.{more_written}
 use Rattle.og_base.proofs.write.write_all.Goals as goal
 
 pub loop-rest-preserved : goal.loop-rest-preserved

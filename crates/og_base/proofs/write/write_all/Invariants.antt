@@ -1,5 +1,4 @@
-use Rattle.std.proofs.Common.{◌≡◌, ℕ, ◌≤◌, List, ◌++◌, length}
-use Rattle.og_base.specs.Sink.{grown}
+use Rattle.std.proofs.Common.{◌≤◌, length}
 use Rattle.og_base.proofs.Writing.{WrittenSoFar}
 use Rattle.og_base.proofs.write.write_all.Given as goal
 
