@@ -9,3 +9,11 @@ pub mod Moving
 pub mod Settling
 pub mod Run
 pub mod Laws
+pub mod Regions
+pub mod Size
+pub mod Forms
+pub mod WellSorted
+pub mod Resolved
+pub mod Rules
+pub mod WellFormed
+pub mod Sample
