@@ -1,6 +1,8 @@
 //! Types of data after ASN.1 (X.680), and the values of these types.
 #![tactic(auto)]
 
+pub mod laws;
+
 use og_names::NameId;
 use sqlite_items::{Boxed, Items};
 use std::marker::Model;
