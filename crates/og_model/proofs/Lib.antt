@@ -4,3 +4,4 @@ pub mod MoreOfModel
 pub mod RunLaws
 pub mod Depth
 pub mod Labels
+pub mod Pasts

@@ -5,7 +5,8 @@ use Rattle.std.proofs.Common.{◌≡◌, ℕ, zero, suc, ◌+◌, ◌≤◌, Lis
 use Rattle.og_base.specs.declared.Place.{Place}
 use Rattle.og_model.specs.declared.FaultKind.{FaultKind}
 use Rattle.og_model.specs.Expressions.{Store}
-use Rattle.og_model.specs.Shown.{Event, StartsWith}
+use Rattle.og_model.specs.Shown.{Event}
+use Rattle.og_model.proofs.Pasts.{StartsWith}
 use Rattle.og_model.specs.Units.{State, Outcome, Done, Stop, Fault, Out, Ran, Doing, ends, runs_out, after_events, showing, go_on, then_do, spend, or_fault, storing}
 
 -- with k units more

@@ -2,7 +2,8 @@
 use Rattle.std.proofs.Common.{◌≡◌, ℕ, ◌+◌, ◌-◌, ◌≤◌, List, [], ◌∷◌, map, refl, sym, ap, ◌∙◌, subst, le_refl, add-zero, arith}
 use Rattle.std.specs.List.{AllByRecursion}
 use Rattle.og_model.specs.declared.Model.{Model}
-use Rattle.og_model.specs.Shown.{Event, Shown, Stimulus, Begins, NeverPast, AnswersEach, StaysStopped, ShowsNothing}
+use Rattle.og_model.specs.Shown.{Event, Shown, Stimulus, Begins, AnswersEach, StaysStopped, ShowsNothing}
+use Rattle.og_model.proofs.Pasts.{NeverPast, never_past}
 use Rattle.og_model.specs.Units.{State, Outcome, Done, Stop, Fault, Out, Ran}
 use Rattle.og_model.specs.Configuration.{Active}
 use Rattle.og_model.specs.Run.{first_state, start, step, shown, shown_stopped, follow, sdl}
@@ -101,7 +102,7 @@ unfolding sdl
 enough_units_are_enough M list n more p h =
     let r = start M n (first_state M) in
     same_with_more M n (more - n) more (difference n more p) list r.outcome r.events r.state r.left (start M more (first_state M))
-    ((start_tied {f = n} {g = more} M).extends n (more - n) more (first_state M) (difference n more p) (le_refl n) (le_refl more)) h
+    ((start_tied {f = n} {g = more} M).extends n (more - n) more (first_state M) (difference n more p) (le_refl n) (le_refl more)) (never_past (sdl M list n) h)
 
 -- ---- what follows
 

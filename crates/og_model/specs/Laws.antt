@@ -1,9 +1,9 @@
 -- What holds of every model, whatever its tree: how fuel and units come into what is done and into what a run shows.
-use Rattle.std.specs.Prelude.{◌≡◌, ℕ, ◌≤◌, List, Option}
+use Rattle.std.specs.Prelude.{◌≡◌, ℕ, ◌≤◌, List, Option, false}
 use Rattle.og_names.specs.declared.NameId.{NameId}
 use Rattle.og_model.specs.declared.Model.{Model}
 use Rattle.og_model.specs.declared.Scope.{Scope}
-use Rattle.og_model.specs.Shown.{Stimulus, Begins, NeverPast, AnswersEach, StaysStopped}
+use Rattle.og_model.specs.Shown.{Stimulus, Begins, has_past, AnswersEach, StaysStopped}
 use Rattle.og_model.specs.declared.Block.{Block, out-Block}
 use Rattle.og_model.specs.declared.Expr.{Expr}
 use Rattle.og_model.specs.declared.Node.{out-Node}
@@ -45,7 +45,7 @@ MoreUnitsGoOn = (M : Model) (list : List Stimulus) (n more : ℕ) → n ≤ more
 -- where the units suffice, more of them change nothing
 abbrev pub EnoughUnitsAreEnough : Type 0
 EnoughUnitsAreEnough =
-    (M : Model) (list : List Stimulus) (n more : ℕ) → n ≤ more → NeverPast (sdl M list n) → sdl M list more ≡ sdl M list n
+    (M : Model) (list : List Stimulus) (n more : ℕ) → n ≤ more → has_past (sdl M list n) ≡ false → sdl M list more ≡ sdl M list n
 
 -- the start and each stimulus is answered, up to the first fault or want of units
 abbrev pub EachIsAnswered : Type 0

@@ -1,4 +1,5 @@
 pub mod Shown
+pub mod RegionTypes
 pub mod Expressions
 pub mod Units
 pub mod Actions
@@ -8,3 +9,11 @@ pub mod Moving
 pub mod Settling
 pub mod Run
 pub mod Laws
+pub mod Regions
+pub mod Size
+pub mod Forms
+pub mod WellSorted
+pub mod Resolved
+pub mod Rules
+pub mod WellFormed
+pub mod Sample
