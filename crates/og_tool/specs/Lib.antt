@@ -1,5 +1,7 @@
 pub mod Grammar
 pub mod Rules
+pub mod Words
 pub mod Files
+pub mod Answers
 pub mod Statuses
 pub mod Reading
