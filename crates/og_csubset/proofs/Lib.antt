@@ -15,3 +15,5 @@ pub mod RunLaws
 pub mod BoundedRuns
 pub mod ExampleRuns
 pub mod FlatExampleRuns
+pub mod Extension
+pub mod ExtensionRuns

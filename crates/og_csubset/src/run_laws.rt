@@ -14,6 +14,8 @@ ghost use Rattle.og_csubset.specs.Loading.{number_by, is_number};
 ghost use Rattle.og_csubset.specs.Step.{cstep, value_by, value_of};
 ghost use Rattle.og_csubset.specs.Run.{c};
 ghost use Rattle.og_csubset.specs.FlatRun.{flat, flat_in_64_bits};
+ghost use Rattle.og_csubset.specs.Loading.{Loads};
+ghost use Rattle.og_csubset.specs.Extension.{Extends, shown_over};
 ghost use Rattle.og_csubset.specs.Agreement.{enough, AreStimuli, SameBehaviour};
 
 /// A run of j + k statements is one of j statements, and then one of k statements from where that one has come to.
@@ -85,5 +87,16 @@ pub fn code_within_64_bits()
     ensures { (ir : Code) (model : Process) (stimuli : List Stimulus) (n : ℕ)
         → has_stuck (flat_in_64_bits ir model stimuli n) ≡ false
         → flat ir model stimuli n ≡ flat_in_64_bits ir model stimuli n }
+{
+}
+
+/// A program that loads with a model that has more variables loads with the model without them, and where it is not stuck it
+/// shows the same over the variables of that model.
+pub fn larger_models_show_the_same()
+    ensures loads { (model larger : Process) → Extends model larger → (program : Program) → Loads program larger
+        → Loads program model }
+    ensures shows { (model larger : Process) → Extends model larger → (program : Program) (stimuli : List Stimulus) (m : ℕ)
+        → has_stuck (c program larger stimuli m) ≡ false
+        → c program model stimuli m ≡ shown_over model (c program larger stimuli m) }
 {
 }
