@@ -1,11 +1,4 @@
 pub mod Lexing
-pub mod ExampleRuns
-pub mod MachineRuns
-pub mod RunLaws
-pub mod Depth
-pub mod FlatExampleRuns
-pub mod BoundedRuns
-mod Lexing
 mod Reading
 mod Seen
 mod Complete
@@ -16,3 +9,11 @@ mod Examples
 mod Nested
 mod Sizes
 mod PlainTexts
+pub mod Depth
+pub mod MachineRuns
+pub mod RunLaws
+pub mod BoundedRuns
+pub mod ExampleRuns
+pub mod FlatExampleRuns
+pub mod Extension
+pub mod ExtensionRuns

@@ -14,3 +14,4 @@ pub mod Examples
 pub mod FlatExamples
 pub mod Texts
 pub mod Plain
+pub mod Extension
