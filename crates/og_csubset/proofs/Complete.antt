@@ -26,19 +26,19 @@ use Rattle.og_csubset.proofs.Seen.{not_least, Some-same}
 use Rattle.og_csubset.proofs.Reading.{Found, Reader, and_then, or_else, literal_at, least_at, least_end, negated, bracket_end, path_at, operand_at, signed_at, product_rest, product_at, sum_rest, sum_at, number_at, test_at, each_step, each_at, constant_at, case_at, named_at, goto_at, if_at, switch_at, return_at, statement_at, type_at, member_end, member_at, struct_end, struct_at, global_at, head_at, event_at, function_at, whole, program_at, read_tokens}
 
 -- what a text of a number can go on with: at 0 a selector, at 1 an operator of a product, at 2 one of a sum, at 3 none
-abbrev operator_level : COp → ℕ
+abbrev pub operator_level : COp → ℕ
 operator_level Add = 2
 operator_level Sub = 2
 operator_level Mul = 1
 operator_level Div = 1
 operator_level Rem = 1
 
-abbrev mark_level : Mark → ℕ
+abbrev pub mark_level : Mark → ℕ
 mark_level dot = 0
 mark_level open_square = 0
 mark_level _ = 3
 
-abbrev level : List Token → ℕ
+abbrev pub level : List Token → ℕ
 level [] = 3
 level (operator op ∷ ts) = operator_level op
 level (mark m ∷ ts) = mark_level m
@@ -232,7 +232,7 @@ number_by zero ts r h some fits = absurd (omega arith)
 number_by (suc d) ts r h some fits = h d fits
 
 -- the tokens of -2^63, as a sum, end at a closing bracket
-least_sum : (d f : ℕ) (rest : List Token)
+pub least_sum : (d f : ℕ) (rest : List Token)
     → sum_at (number_at d) (suc (suc f)) (operator Sub ∷ literal (2 ^ 63 - 1) (operator Sub ∷ literal 1 (mark close_round ∷ rest)))
     ≡ Some (Op Sub (Number (negsuc (2 ^ 63 - 2))) (Number (pos 1)), mark close_round ∷ rest)
 unfolding sum_at product_at signed_at sum_rest product_rest
@@ -272,7 +272,7 @@ product_rest_level product_ends h = omega arith
 product_rest_level (multiply {op} is p more) h = omega (arith, level_product op is)
 
 mutual
-  sum_complete : {e : CExpr} {ts rest : List Token} → IsSum e ts rest → (d f : ℕ) → level rest ≡ 3 → length ts ≤ suc d → length ts ≤ f
+  pub sum_complete : {e : CExpr} {ts rest : List Token} → IsSum e ts rest → (d f : ℕ) → level rest ≡ 3 → length ts ≤ suc d → length ts ≤ f
       → sum_at (number_at d) f ts ≡ Some (e, rest)
   sum_complete (sum p more) d f ends fits enough =
       let shorter = product_shrinks p in

@@ -9,3 +9,4 @@ mod Examples
 mod Nested
 mod Sizes
 mod PlainTexts
+mod PlainSpelt

@@ -50,7 +50,7 @@ shown level p rest = cond (nat_le p.level level) (p.bare rest) (bracketed p rest
 abbrev pub number_piece : ℤ → Piece
 number_piece (pos n) = piece 1 (literal n) (Some (pos n))
 number_piece (negsuc n) =
-    cond (n == 2 ^ 63 - 1) (piece 0 least_text None) (piece 1 (λ rest. operator Sub ∷ literal (n + 1) rest) (Some (negsuc n)))
+    cond (n == 2 ^ 63 - 1) (piece 0 least_text None) (piece 1 (λ rest. operator Sub ∷ literal (suc n) rest) (Some (negsuc n)))
 
 abbrev pub is_value : ℤ → Option ℤ → Bool
 is_value z None = false
@@ -78,7 +78,7 @@ abbrev pub op_piece : COp → Piece → Piece → Piece
 op_piece op p q = record {
   level = op_level op;
   bare = operation (op_level op) op p q;
-  inside = cond (is_least_sum op p q) (λ rest. bracketed p (operator op ∷ q.bare rest)) (operation (op_level op) op p q);
+  inside = cond (is_least_sum op p q) (λ rest. bracketed p (operator op ∷ shown 2 q rest)) (operation (op_level op) op p q);
   value = None;
 }
 
