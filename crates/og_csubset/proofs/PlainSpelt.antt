@@ -339,3 +339,83 @@ good (suc d) e h = go (good d) (form e) h
             (operand_good (Pick t a b) _
                 (λ rest. pick (test_text_is d below t (omega (arith, pick_test t a b)) _) (g.sum _) (h.sum (mark close_round ∷ rest)))
                 (pick_other t a b))
+
+number_text : (e : CExpr) (rest : List Token) → IsSum e (plain_number e rest) rest
+number_text e rest = (good (size-CExpr e) e (omega arith)).sum rest
+
+all_good : (d : ℕ) → GoodBelow d
+unfolding GoodBelow
+all_good d e h = good d e h
+
+place_spelt : (p : CPlace) (rest : List Token) → IsPlace p (plain_place p rest) rest
+place_spelt p rest = place_text_is (size-CPlace p) (all_good (size-CPlace p)) p (omega arith) rest
+
+test_spelt : (t : CTest) (rest : List Token) → IsTest t (plain_test t rest) rest
+test_spelt t rest = test_text_is (size-CTest t) (all_good (size-CTest t)) t (omega arith) rest
+
+each_spelt : {A : Type 0} (Is : A → List Token → List Token → Type 0) (text : A → Text) → ((x : A) (rest : List Token) → Is x (text x rest) rest)
+    → (xs : List A) (rest : List Token) → Each Is xs (each text xs rest) rest
+each_spelt Is text h [] rest = none
+each_spelt Is text h (x ∷ xs) rest = one_more (h x (each text xs rest)) (each_spelt Is text h xs rest)
+
+constant_spelt : (z : ℤ) (rest : List Token) → IsConstant z (plain_constant z rest) rest
+constant_spelt (pos n) rest = constant
+constant_spelt (negsuc n) rest = go (n == 2 ^ 63 - 1) refl
+  where
+    go : (c : Bool) → (n == 2 ^ 63 - 1) ≡ c
+        → IsConstant (negsuc n) ((cond c (piece 0 least_text None) (piece 1 (λ rest. operator Sub ∷ literal (suc n) rest) (Some (negsuc n)))).bare rest) rest
+    go true k = subst (λ m. IsConstant (negsuc m) (least_text rest) rest) (sym (eqb-true n (2 ^ 63 - 1) k)) least_constant
+    go false k = negative_constant
+
+case_spelt : (c : CCase) (rest : List Token) → IsCase c (plain_case c rest) rest
+case_spelt c rest = case_goto (constant_spelt c.value _)
+
+statement_spelt : (s : CStmt) (rest : List Token) → IsStatement s (plain_statement s rest) rest
+statement_spelt (Assign p e) rest = assign (place_spelt p (mark equals ∷ plain_number e (mark semicolon ∷ rest))) (number_text e (mark semicolon ∷ rest))
+statement_spelt (IfGoto t l) rest = if_goto (test_spelt t _)
+statement_spelt (Goto l) rest = goto
+statement_spelt (Label l) rest = label
+statement_spelt (Switch e cases l) rest = switch (number_text e _) (each_spelt IsCase plain_case case_spelt cases _)
+statement_spelt (Call f) rest = call
+statement_spelt Return rest = return
+
+type_spelt : (t : CType) (rest : List Token) → IsType t (plain_type t rest) rest
+type_spelt Int64 rest = number_type
+type_spelt (Struct s) rest = struct_type
+
+member_spelt : (m : CMember) → IsSize m.size → (rest : List Token) → IsMember m (plain_member m rest) rest
+member_spelt m h rest = go m.size h
+  where
+    go : (size : Option ℕ) → IsSize size → IsMember (record { kind = m.kind; name = m.name; size = size }) (plain_member (record { kind = m.kind; name = m.name; size = size }) rest) rest
+    go None h = single (type_spelt m.kind _)
+    go (Some n) h = array h.0 h.1 (type_spelt m.kind _)
+
+members_spelt : (ms : List CMember) → HasSizes ms → (rest : List Token) → Each IsMember ms (each plain_member ms rest) rest
+members_spelt [] h rest = none
+members_spelt (m ∷ ms) h rest = one_more (member_spelt m h.0 (each plain_member ms rest)) (members_spelt ms h.1 rest)
+
+struct_spelt : (s : CStruct) → HasMember s.members → HasSizes s.members → (rest : List Token) → IsStruct s (plain_struct s rest) rest
+struct_spelt s some sizes rest = go s.members some sizes
+  where
+    go : (ms : List CMember) → HasMember ms → HasSizes ms → IsStruct (record { name = s.name; members = ms }) (plain_struct (record { name = s.name; members = ms }) rest) rest
+    go [] some sizes = absurd some
+    go (m ∷ ms) some sizes = structure (members_spelt (m ∷ ms) sizes _)
+
+structs_spelt : (ss : List CStruct) → HasMembers ss → (rest : List Token) → Each IsStruct ss (each plain_struct ss rest) rest
+structs_spelt [] h rest = none
+structs_spelt (s ∷ ss) h rest = one_more (struct_spelt s h.0 h.1 (each plain_struct ss rest)) (structs_spelt ss h.2 rest)
+
+global_spelt : (g : CGlobal) (rest : List Token) → IsGlobal g (plain_global g rest) rest
+global_spelt g rest = global (type_spelt g.kind _)
+
+event_spelt : (e : Word) (rest : List Token) → IsEvent e (plain_event e rest) rest
+event_spelt e rest = event
+
+function_spelt : (f : CFunction) (rest : List Token) → IsFunction f (plain_function f rest) rest
+function_spelt f rest = function (each_spelt IsStatement plain_statement statement_spelt f.body (mark close_brace ∷ rest))
+
+-- the plain tokens of a program are its text
+pub plain_spelt : (P : CProgram) → HasMembers P.structs → IsProgram P (plain_tokens P)
+plain_spelt P h =
+    program (structs_spelt P.structs h _) (each_spelt IsGlobal plain_global global_spelt P.globals _)
+        (each_spelt IsEvent plain_event event_spelt P.events _) (each_spelt IsFunction plain_function function_spelt P.functions [])
