@@ -1,12 +1,13 @@
-mod Lexing
-mod Reading
-mod Seen
-mod Complete
-mod Sound
-mod Lexed
-mod Text
-mod Examples
-mod Nested
-mod Sizes
-mod PlainTexts
-mod PlainSpelt
+pub mod Lexing
+pub mod Lexed
+pub mod Reading
+pub mod Seen
+pub mod Complete
+pub mod Sound
+pub mod Text
+pub mod Examples
+pub mod Nested
+pub mod Sizes
+pub mod PlainTexts
+pub mod PlainSpelt
+pub mod TextLayout

@@ -3,7 +3,7 @@
 -- behind a sign), and round a literal behind a sign that is an operation. -2^63 has its brackets by its special spelling.
 -- Where the sum of -9223372036854775807 less 1 stands in a bracket, its left operand is bracketed, since the bracket would
 -- be -2^63 otherwise. Each word here gives the tokens of a tree before the tokens that come behind it.
-use Rattle.std.specs.Prelude.{◌≡◌, ℕ, suc, ◌+◌, ◌-◌, ◌^◌, ◌<◌, ◌≤◌, ℤ, pos, negsuc, Bool, true, false, cond, ◌&&◌, ◌==◌, nat_le, List, [], ◌∷◌, IsTrue, ⊤, Option, Some, None}
+use Rattle.std.specs.Prelude.{◌≡◌, ℕ, suc, ◌+◌, ◌-◌, ◌^◌, ◌<◌, ◌≤◌, ℤ, pos, negsuc, Bool, true, false, cond, ◌&&◌, ◌==◌, nat_le, List, [], ◌∷◌, ◌++◌, IsTrue, ⊤, Option, Some, None}
 use Rattle.og_names.specs.declared.Word.{Word}
 use Rattle.og_csubset.specs.declared.CProgram.{CProgram}
 use Rattle.og_csubset.specs.declared.CStruct.{CStruct}
@@ -22,7 +22,7 @@ use Rattle.og_csubset.specs.declared.CExpr.TheOpen.{Number, Read, Minus, Op, Pic
 use Rattle.og_csubset.specs.declared.CTest.{CTest, CTest-F, fold-CTest}
 use Rattle.og_csubset.specs.declared.COp.{COp}
 use Rattle.og_csubset.specs.declared.COp.TheVariants.{Add, Sub, Mul, Div, Rem}
-use Rattle.og_csubset.specs.Tokens.{Token, name, number, operator, relation, keyword, mark, typedef_, struct_, void_, if_, goto_, switch_, case_, default_, return_, int64_t, INT64_C, open_brace, close_brace, open_square, close_square, open_round, close_round, semicolon, colon, question, dot, equals, IsToken}
+use Rattle.og_csubset.specs.Tokens.{Token, name, number, operator, relation, keyword, mark, typedef_, struct_, void_, if_, goto_, switch_, case_, default_, return_, int64_t, INT64_C, open_brace, close_brace, open_square, close_square, open_round, close_round, semicolon, colon, question, dot, equals, IsToken, spelling, first_line}
 use Rattle.og_csubset.specs.Spelling.{literal, least_text, is_sum}
 
 -- tokens before others
@@ -174,6 +174,15 @@ plain_function f rest = plain_head f.name (mark open_brace ∷ each plain_statem
 abbrev pub plain_tokens : CProgram → List Token
 plain_tokens P =
     each plain_struct P.structs (each plain_global P.globals (each plain_event P.events (each plain_function P.functions [])))
+
+-- tokens with a space behind each
+abbrev pub spaced : List Token → List ℕ
+spaced [] = []
+spaced (token ∷ tokens) = spelling token ++ 32 ∷ spaced tokens
+
+-- a text of the program; how its white space lies does not matter
+abbrev pub plain_text : CProgram → List ℕ
+plain_text P = first_line ++ spaced (plain_tokens P)
 
 -- each size lies in 1 .. 65536, and each struct has a member
 abbrev pub IsSize : Option ℕ → Type 0

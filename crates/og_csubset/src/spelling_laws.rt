@@ -1,11 +1,12 @@
 //! Laws of the texts of the C subset. Nothing calls these functions: each states a law of the definitions as its contract.
 
-ghost use Rattle.std.specs.Prelude.{◌≡◌, ◌<◌, ℕ, ℤ, pos, negsuc, List, [], ◌∷◌, ◌++◌, codes};
+ghost use Rattle.std.specs.Prelude.{◌≡◌, ◌<◌, ◌≤◌, ℕ, ℤ, pos, negsuc, List, [], ◌∷◌, ◌++◌, codes};
 ghost use Rattle.og_csubset.specs.declared.CProgram.{CProgram as Program};
 ghost use Rattle.og_csubset.specs.declared.CExpr.{Number, Minus, Op};
 ghost use Rattle.og_csubset.specs.declared.COp.TheVariants.{Add, Sub, Mul, Div, Rem};
 ghost use Rattle.og_csubset.specs.Tokens.{Token, HasTokens};
 ghost use Rattle.og_csubset.specs.Nesting.{nesting, HasNesting, IsWithinNesting, PassesNesting};
+ghost use Rattle.og_csubset.specs.Plain.{plain_tokens, plain_text, IsWellMade};
 ghost use Rattle.og_csubset.specs.Spelling.{CSpells, least};
 ghost use Rattle.og_csubset.specs.Texts.{lines, in_brackets, statements_text, assigning, number_of, counting, counting_text, forms, forms_text};
 
@@ -109,5 +110,12 @@ pub fn one_deep_place()
 /// A text has one list of tokens at most.
 pub fn one_list_of_tokens()
     ensures { (tokens others : List Token) (text : List ℕ) → HasTokens tokens text → HasTokens others text → tokens ≡ others }
+{
+}
+
+/// A program with C names, numbers of 64 bits, members and sizes as the grammar has them has a text, without a bracket beyond need.
+pub fn plain_text_of_each()
+    ensures spells { (P : Program) → IsWellMade P → CSpells P (plain_text P) }
+    ensures nests { (P : Program) (limit : ℕ) → IsWellMade P → nesting (plain_tokens P) ≤ limit → IsWithinNesting limit (plain_text P) }
 {
 }
