@@ -11,3 +11,4 @@ pub mod Sizes
 pub mod PlainTexts
 pub mod PlainSpelt
 pub mod TextLayout
+pub mod WrongPlace

@@ -3,3 +3,4 @@ pub mod Spelling
 pub mod Nesting
 pub mod Texts
 pub mod Plain
+pub mod Wrong

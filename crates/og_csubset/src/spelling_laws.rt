@@ -7,6 +7,7 @@ ghost use Rattle.og_csubset.specs.declared.COp.TheVariants.{Add, Sub, Mul, Div, 
 ghost use Rattle.og_csubset.specs.Tokens.{Token, HasTokens};
 ghost use Rattle.og_csubset.specs.Nesting.{nesting, HasNesting, IsWithinNesting, PassesNesting};
 ghost use Rattle.og_csubset.specs.Plain.{plain_tokens, plain_text, IsWellMade};
+ghost use Rattle.og_csubset.specs.Wrong.{GoesWrong};
 ghost use Rattle.og_csubset.specs.Spelling.{CSpells, least};
 ghost use Rattle.og_csubset.specs.Texts.{lines, in_brackets, statements_text, assigning, number_of, counting, counting_text, forms, forms_text};
 
@@ -117,5 +118,12 @@ pub fn one_list_of_tokens()
 pub fn plain_text_of_each()
     ensures spells { (P : Program) → IsWellMade P → CSpells P (plain_text P) }
     ensures nests { (P : Program) (limit : ℕ) → IsWellMade P → nesting (plain_tokens P) ≤ limit → IsWithinNesting limit (plain_text P) }
+{
+}
+
+/// A text goes wrong at one place at most, and at none where a program spells it.
+pub fn one_wrong_place()
+    ensures unique { (text before other : List ℕ) → GoesWrong text before → GoesWrong text other → before ≡ other }
+    ensures nowhere { (P : Program) (text before : List ℕ) → CSpells P text → GoesWrong text before → ⊥ }
 {
 }
