@@ -1,8 +1,8 @@
 -- The examples, by computing what the reader finds.
-use Rattle.std.proofs.Common.{◌≡◌, ℕ, pos, negsuc, Option, Some, None, List, [], ◌∷◌, ◌++◌, codes, refl}
+use Rattle.std.proofs.Common.{ℕ, pos, negsuc, Option, List, [], ◌∷◌, ◌++◌, codes, refl}
 use Rattle.std.specs.Fmt.{digits}
 use Rattle.og_csubset.specs.declared.CProgram.{CProgram}
-use Rattle.og_csubset.specs.declared.CExpr.{CExpr, Number, Minus, Op}
+use Rattle.og_csubset.specs.declared.CExpr.{Number, Minus, Op}
 use Rattle.og_csubset.specs.declared.COp.TheVariants.{Add, Sub, Mul, Div, Rem}
 use Rattle.og_csubset.specs.Nesting.{HasNesting}
 use Rattle.og_csubset.specs.Spelling.{CSpells, least}

@@ -12,3 +12,4 @@ pub mod PlainTexts
 pub mod PlainSpelt
 pub mod TextLayout
 pub mod WrongPlace
+pub mod WellMade

@@ -1,6 +1,6 @@
 -- The plain text of a program spells it.
-use Rattle.std.proofs.Common.{◌≡◌, ℕ, zero, suc, ◌+◌, ◌-◌, ◌^◌, ◌<◌, ◌≤◌, Bool, true, false, cond, ◌&&◌, ◌==◌, nat_le, List, [], ◌∷◌, map, length, IsTrue, ℤ, pos, negsuc, neg_ℤ, Option, Some, None, refl, sym, ap, ◌∙◌, subst, arith, eqb-true, leb-true}
-use Rattle.std.proofs.lemmas.Bool.{true≢false, and_parts}
+use Rattle.std.proofs.Common.{◌≡◌, ℕ, zero, suc, ◌-◌, ◌^◌, ◌≤◌, Bool, true, false, cond, ◌==◌, nat_le, List, [], ◌∷◌, map, length, IsTrue, ℤ, pos, negsuc, Option, Some, None, refl, sym, ap, ◌∙◌, subst, arith, eqb-true, leb-true}
+use Rattle.std.proofs.lemmas.Bool.{true≢false}
 use Rattle.og_names.specs.declared.Word.{Word}
 use Rattle.og_csubset.specs.declared.CProgram.{CProgram}
 use Rattle.og_csubset.specs.declared.CStruct.{CStruct}
@@ -13,17 +13,16 @@ use Rattle.og_csubset.specs.declared.CStmt.{CStmt}
 use Rattle.og_csubset.specs.declared.CStmt.TheVariants.{Assign, IfGoto, Goto, Label, Switch, Call, Return}
 use Rattle.og_csubset.specs.declared.CCase.{CCase}
 use Rattle.og_csubset.specs.declared.CPlace.{CPlace, size-CPlace}
-use Rattle.og_csubset.specs.declared.CStep.{CStep, Member, At, size-CStep}
+use Rattle.og_csubset.specs.declared.CStep.{CStep, Member, At}
 use Rattle.og_csubset.specs.declared.CExpr.{CExpr, Number, Read, Minus, Op, Pick, size-CExpr, out-CExpr, roll-CExpr, roll-out-CExpr, size_is-CExpr}
 use Rattle.og_csubset.specs.declared.CExpr.TheOpen as open'
 use Rattle.og_csubset.specs.declared.CExpr.TheVariants.{rolls-Number, rolls-Read, rolls-Minus, rolls-Op, rolls-Pick, outs-Number, outs-Read, outs-Minus, outs-Op, outs-Pick}
 use Rattle.og_csubset.specs.declared.CTest.{CTest, size-CTest}
 use Rattle.og_csubset.specs.declared.COp.{COp}
 use Rattle.og_csubset.specs.declared.COp.TheVariants.{Add, Sub, Mul, Div, Rem}
-use Rattle.og_csubset.specs.declared.CRel.{CRel}
-use Rattle.og_csubset.specs.Tokens.{Token, name, number, operator, relation, keyword, mark, typedef_, struct_, void_, if_, goto_, switch_, case_, default_, return_, int64_t, INT64_C, open_brace, close_brace, open_square, close_square, open_round, close_round, semicolon, colon, question, dot, equals}
-use Rattle.og_csubset.specs.Spelling.{word, least, literal, least_text, is_sum, is_product, IsSum, sum, SumGoesOn, sum_ends, add, IsProduct, product, ProductGoesOn, product_ends, multiply, IsSigned, positive, negative, minus_zero, unsigned, minus, IsOperand, read, bracket, pick, least_number, IsTest, test, IsPlace, place, IsPath, path_ends, member, index, Each, none, one_more, IsConstant, constant, negative_constant, least_constant, IsCase, case_goto, IsStatement, assign, if_goto, goto, label, switch, call, return, IsType, number_type, struct_type, IsMember, single, array, IsStruct, structure, IsGlobal, global, IsEvent, event, IsFunction, function, IsProgram, program}
-use Rattle.og_csubset.specs.Plain.{Text, Piece, piece, bracketed, shown, number_piece, is_value, behind_sign, is_least_sum, operation, op_piece, joined, plain_piece, plain_place, plain_test, plain_number, each, plain_constant, plain_case, plain_statement, plain_type, plain_member, plain_struct, plain_global, plain_event, plain_function, plain_tokens, IsSize, HasSizes, HasMember, HasMembers, IsWellMade}
+use Rattle.og_csubset.specs.Tokens.{Token, operator, relation, mark, close_brace, close_square, open_round, close_round, semicolon, dot, equals}
+use Rattle.og_csubset.specs.Spelling.{literal, least_text, is_sum, is_product, IsSum, sum, SumGoesOn, sum_ends, add, IsProduct, product, ProductGoesOn, product_ends, multiply, IsSigned, positive, negative, minus_zero, unsigned, minus, IsOperand, read, bracket, pick, least_number, IsTest, test, IsPlace, place, IsPath, path_ends, member, index, Each, none, one_more, IsConstant, constant, negative_constant, least_constant, IsCase, case_goto, IsStatement, assign, if_goto, goto, label, switch, call, return, IsType, number_type, struct_type, IsMember, single, array, IsStruct, structure, IsGlobal, global, IsEvent, event, IsFunction, function, IsProgram, program}
+use Rattle.og_csubset.specs.Plain.{Text, Piece, piece, bracketed, shown, number_piece, is_value, behind_sign, is_least_sum, operation, op_piece, joined, plain_piece, plain_place, plain_test, plain_number, each, plain_constant, plain_case, plain_statement, plain_type, plain_member, plain_struct, plain_global, plain_event, plain_function, plain_tokens, IsSize, HasSizes, HasMember, HasMembers}
 use Rattle.og_csubset.proofs.Seen.{nothing, Some-same}
 use Rattle.og_csubset.proofs.Reading.{number_at, sum_at}
 use Rattle.og_csubset.proofs.Complete.{sum_complete, least_sum}
@@ -60,7 +59,7 @@ sum_not_least e ts r h other more same =
     let mine : sum_at (number_at d) (suc (suc d)) ts ≡ Some (e, mark close_round ∷ r) = sum_complete h d (suc (suc d)) refl (omega arith) (omega arith) in
     let inside : ts ≡ operator Sub ∷ literal (2 ^ 63 - 1) (operator Sub ∷ literal 1 (mark close_round ∷ more)) = ap tail same in
     let its : sum_at (number_at d) (suc (suc d)) ts ≡ Some (Op Sub (Number (negsuc (2 ^ 63 - 2))) (Number (pos 1)), mark close_round ∷ more) =
-        ap (λ l. sum_at (number_at d) (suc (suc d)) l) inside ∙ least_sum d d more in
+    ap (λ l. sum_at (number_at d) (suc (suc d)) l) inside ∙ least_sum d d more in
     other (ap (λ p. p.0) (Some-same (e, mark close_round ∷ r) (Op Sub (Number (negsuc (2 ^ 63 - 2))) (Number (pos 1)), mark close_round ∷ more) (sym mine ∙ its)))
   where
     tail : List Token → List Token
@@ -223,7 +222,7 @@ product_op_good : (op : COp) (a b : CExpr) (p q : Piece) → is_product op ≡ t
     → Good (Op op a b) (record { level = 2; bare = operation 2 op p q; inside = operation 2 op p q; value = None })
 product_op_good op a b p q is g h other =
     let whole : (rest : List Token) → IsProduct (Op op a b) (operation 2 op p q rest) rest =
-        λ rest. product_on (shown_product a p g (operator op ∷ shown 1 q rest)) is (shown_signed b q h rest) in
+    λ rest. product_on (shown_product a p g (operator op ∷ shown 1 q rest)) is (shown_signed b q h rest) in
     record {
       operand = λ k rest. absurd (omega (arith, k));
       signed = λ k rest. absurd (omega (arith, k));
@@ -246,7 +245,7 @@ least_inside : (a b : CExpr) (p q : Piece) → Good a p → Good b q → (rest :
     → IsOperand (Op Sub a b) (mark open_round ∷ bracketed p (operator Sub ∷ shown 2 q (mark close_round ∷ rest))) rest
 least_inside a b p q g h rest =
     bracket (sum_on (to_sum (to_product (unsigned (g.inside (operator Sub ∷ shown 2 q (mark close_round ∷ rest)))))) refl (shown_product b q h (mark close_round ∷ rest)))
-        (λ more e. let clash : mark open_round ≡ operator Sub = ap second e in cc)
+    (λ more e. let clash : mark open_round ≡ operator Sub = ap second e in cc)
   where
     second : List Token → Token
     second [] = mark dot
@@ -263,13 +262,15 @@ least_values a b h =
 op_good : (op : COp) (a b : CExpr) → Good a (plain_piece a) → Good b (plain_piece b) → Good (Op op a b) (op_piece op (plain_piece a) (plain_piece b))
 op_good Add a b g h =
     sum_op_good Add a b (plain_piece a) (plain_piece b) _ refl g h
-        (plain_inside Add a b (plain_piece a) (plain_piece b) refl g h (λ e. let k = (same_parts Add a b e).op_same in cc))
+    (plain_inside Add a b (plain_piece a) (plain_piece b) refl g h (λ e. let k = (same_parts Add a b e).op_same in cc))
 op_good Sub a b g h = sum_op_good Sub a b (plain_piece a) (plain_piece b) _ refl g h (λ rest. go (is_least_sum Sub (plain_piece a) (plain_piece b)) refl rest)
   where
     p : Piece
     p = plain_piece a
+
     q : Piece
     q = plain_piece b
+
     go : (c : Bool) → is_least_sum Sub (plain_piece a) (plain_piece b) ≡ c → (rest : List Token) → IsOperand (Op Sub a b)
         (mark open_round ∷ (cond {A = Text} c (λ us. bracketed (plain_piece a) (operator Sub ∷ shown 2 (plain_piece b) us)) (operation 3 Sub (plain_piece a) (plain_piece b))) (mark close_round ∷ rest)) rest
     go true k rest = least_inside a b (plain_piece a) (plain_piece b) g h rest
@@ -284,7 +285,8 @@ minus_text a g rest = go (is_value (pos 0) (plain_piece a).value) refl
     zero_text : a ≡ Number (pos 0) → IsSigned (Minus a) (operator Sub ∷ (plain_piece a).bare rest) rest
     zero_text e =
         subst (λ x. IsSigned (Minus x) (operator Sub ∷ (plain_piece x).bare rest) rest) (sym e)
-            (subst (λ p. IsSigned (Minus (Number (pos 0))) (operator Sub ∷ p.bare rest) rest) (sym (piece-Number (pos 0))) minus_zero)
+        (subst (λ p. IsSigned (Minus (Number (pos 0))) (operator Sub ∷ p.bare rest) rest) (sym (piece-Number (pos 0))) minus_zero)
+
     go : (c : Bool) → is_value (pos 0) (plain_piece a).value ≡ c
         → IsSigned (Minus a) (operator Sub ∷ (cond {A = Text} c (plain_piece a).bare (shown 0 (plain_piece a))) rest) rest
     go true k = zero_text (g.value (pos 0) (value_is (pos 0) (plain_piece a).value k))
@@ -302,7 +304,7 @@ steps_text d good (Member w ∷ steps) h rest =
 steps_text d good (At e ∷ steps) h rest =
     let g = good e (omega (arith, at_part e, h.0)) in
     subst (λ t. IsPath (At e ∷ steps) (t (joined (map plain_step steps) rest)) rest) (sym (step-At e))
-        (index (g.sum (mark close_square ∷ joined (map plain_step steps) rest)) (steps_text d good steps h.1 rest))
+    (index (g.sum (mark close_square ∷ joined (map plain_step steps) rest)) (steps_text d good steps h.1 rest))
 
 place_text_is : (d : ℕ) → GoodBelow d → (p : CPlace) → size-CPlace p ≤ suc d → (rest : List Token) → IsPlace p (plain_place p rest) rest
 place_text_is d good p h rest =
@@ -324,21 +326,21 @@ good (suc d) e h = go (good d) (form e) h
     go below (of_number z) k = subst (λ p. Good (Number z) p) (sym (piece-Number z)) (number_good z)
     go below (of_read p) k =
         subst (λ x. Good (Read p) x) (sym (piece-Read p))
-            (operand_good (Read p) (plain_place p) (λ rest. read (place_text_is d below p (omega (arith, read_place p)) rest)) (read_other p))
+        (operand_good (Read p) (plain_place p) (λ rest. read (place_text_is d below p (omega (arith, read_place p)) rest)) (read_other p))
     go below (of_minus a) k =
         let g = below a (omega (arith, minus_part a)) in
         subst (λ x. Good (Minus a) x) (sym (piece-Minus a))
-            (signed_good (Minus a) (λ rest. operator Sub ∷ behind_sign (plain_piece a) rest) None (minus_text a g) (minus_other a) (λ z k. nothing z k))
+        (signed_good (Minus a) (λ rest. operator Sub ∷ behind_sign (plain_piece a) rest) None (minus_text a g) (minus_other a) (λ z k. nothing z k))
     go below (of_op op a b) k =
         subst (λ x. Good (Op op a b) x) (sym (piece-Op op a b))
-            (op_good op a b (below a (omega (arith, op_left op a b))) (below b (omega (arith, op_right op a b))))
+        (op_good op a b (below a (omega (arith, op_left op a b))) (below b (omega (arith, op_right op a b))))
     go below (of_pick t a b) k =
         let g = below a (omega (arith, pick_first t a b)) in
         let h = below b (omega (arith, pick_second t a b)) in
         subst (λ x. Good (Pick t a b) x) (sym (piece-Pick t a b))
-            (operand_good (Pick t a b) _
-                (λ rest. pick (test_text_is d below t (omega (arith, pick_test t a b)) _) (g.sum _) (h.sum (mark close_round ∷ rest)))
-                (pick_other t a b))
+        (operand_good (Pick t a b) _
+        (λ rest. pick (test_text_is d below t (omega (arith, pick_test t a b)) _) (g.sum _) (h.sum (mark close_round ∷ rest)))
+        (pick_other t a b))
 
 number_text : (e : CExpr) (rest : List Token) → IsSum e (plain_number e rest) rest
 number_text e rest = (good (size-CExpr e) e (omega arith)).sum rest
@@ -418,4 +420,4 @@ function_spelt f rest = function (each_spelt IsStatement plain_statement stateme
 pub plain_spelt : (P : CProgram) → HasMembers P.structs → IsProgram P (plain_tokens P)
 plain_spelt P h =
     program (structs_spelt P.structs h _) (each_spelt IsGlobal plain_global global_spelt P.globals _)
-        (each_spelt IsEvent plain_event event_spelt P.events _) (each_spelt IsFunction plain_function function_spelt P.functions [])
+    (each_spelt IsEvent plain_event event_spelt P.events _) (each_spelt IsFunction plain_function function_spelt P.functions [])

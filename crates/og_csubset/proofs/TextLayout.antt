@@ -1,5 +1,5 @@
 -- A text is put together token by token, with white space before each.
-use Rattle.std.proofs.Common.{◌≡◌, ℕ, ◌+◌, ◌<◌, ◌≤◌, Bool, true, false, List, [], ◌∷◌, ◌++◌, IsTrue, refl, sym, ap, ◌∙◌, subst, arith, append_assoc}
+use Rattle.std.proofs.Common.{◌≡◌, ℕ, ◌≤◌, true, false, List, [], ◌∷◌, ◌++◌, refl, sym, ap, ◌∙◌, subst, arith, append_assoc}
 use Rattle.std.specs.List.{list_all}
 use Rattle.std.proofs.lemmas.List.Folds.{list_all-append}
 use Rattle.std.proofs.lemmas.Bool.Decides.{nat_tests}
@@ -8,8 +8,8 @@ use Rattle.og_csubset.specs.declared.COp.TheVariants.{Add, Sub, Mul, Div, Rem}
 use Rattle.og_csubset.specs.declared.CRel.{CRel}
 use Rattle.og_csubset.specs.declared.CRel.TheVariants.{Eq, Ne, Lt, Le, Gt, Ge}
 use Rattle.og_csubset.specs.declared.CProgram.{CProgram}
-use Rattle.og_csubset.specs.Tokens.{Keyword, typedef_, Mark, open_brace, close_brace, open_square, close_square, open_round, close_round, semicolon, colon, question, dot, equals, Token, name, number, operator, relation, keyword, mark, spelling, is_space, IsToken, joins, operator_joins, relation_joins, mark_joins, MayFollow, Begins, Cuts, Lexes, HasTokens, first_line}
-use Rattle.og_csubset.specs.Spelling.{IsProgram, CSpells}
+use Rattle.og_csubset.specs.Tokens.{Mark, open_brace, close_brace, open_square, close_square, open_round, close_round, semicolon, colon, question, dot, equals, Token, name, number, operator, relation, keyword, mark, spelling, is_space, IsToken, joins, operator_joins, relation_joins, mark_joins, MayFollow, Lexes}
+use Rattle.og_csubset.specs.Spelling.{CSpells}
 use Rattle.og_csubset.specs.Nesting.{nesting, IsWithinNesting}
 use Rattle.og_csubset.specs.Plain.{plain_tokens, spaced, plain_text, AreTokens, IsWellMade}
 use Rattle.og_csubset.proofs.PlainSpelt.{plain_spelt}
@@ -30,14 +30,21 @@ Lexes-space space [] rest blank h =
     let all : list_all is_space rest ≡ true = subst (λ b. list_all is_space b ≡ true) (sym h.1) h.2 in
     (space ++ rest, refl, rw (list_all-append is_space space rest, blank, all))
 Lexes-space space (t ∷ ts) rest blank h =
-    let b = h.1.1 in
-    (h.0, (h.1.0, record {
-      space = space ++ b.space;
-      blank = rw (list_all-append is_space space b.space, blank, b.blank);
-      joined = ap (λ l. space ++ l) b.joined ∙ sym (append_assoc space b.space (spelling t ++ h.1.0));
-      is_token = b.is_token;
-      follows = b.follows;
-    }, h.1.2), h.2)
+    let b = h.1.1 in (
+      h.0,
+      (
+        h.1.0,
+        record {
+          space = space ++ b.space;
+          blank = rw (list_all-append is_space space b.space, blank, b.blank);
+          joined = ap (λ l. space ++ l) b.joined ∙ sym (append_assoc space b.space (spelling t ++ h.1.0));
+          is_token = b.is_token;
+          follows = b.follows;
+        },
+        h.1.2,
+      ),
+      h.2,
+    )
 
 operator_space : (op : COp) (byte : ℕ) → is_space byte ≡ true → operator_joins op byte ≡ false
 operator_space Add byte h = grind (arith, nat_tests)

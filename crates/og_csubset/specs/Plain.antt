@@ -3,7 +3,7 @@
 -- behind a sign), and round a literal behind a sign that is an operation. -2^63 has its brackets by its special spelling.
 -- Where the sum of -9223372036854775807 less 1 stands in a bracket, its left operand is bracketed, since the bracket would
 -- be -2^63 otherwise. Each word here gives the tokens of a tree before the tokens that come behind it.
-use Rattle.std.specs.Prelude.{◌≡◌, ℕ, suc, ◌+◌, ◌-◌, ◌^◌, ◌<◌, ◌≤◌, ℤ, pos, negsuc, Bool, true, false, cond, ◌&&◌, ◌==◌, nat_le, List, [], ◌∷◌, ◌++◌, IsTrue, ⊤, Option, Some, None}
+use Rattle.std.specs.Prelude.{ℕ, suc, ◌-◌, ◌^◌, ◌<◌, ◌≤◌, ℤ, pos, negsuc, Bool, false, cond, ◌&&◌, ◌==◌, nat_le, List, [], ◌∷◌, ◌++◌, ⊤, Option, Some, None}
 use Rattle.og_names.specs.declared.Word.{Word}
 use Rattle.og_csubset.specs.declared.CProgram.{CProgram}
 use Rattle.og_csubset.specs.declared.CStruct.{CStruct}
@@ -16,13 +16,13 @@ use Rattle.og_csubset.specs.declared.CStmt.{CStmt}
 use Rattle.og_csubset.specs.declared.CStmt.TheVariants.{Assign, IfGoto, Goto, Label, Switch, Call, Return}
 use Rattle.og_csubset.specs.declared.CCase.{CCase}
 use Rattle.og_csubset.specs.declared.CPlace.{CPlace, CPlace-F, fold-CPlace}
-use Rattle.og_csubset.specs.declared.CStep.{CStep, CStep-F}
+use Rattle.og_csubset.specs.declared.CStep.{CStep-F}
 use Rattle.og_csubset.specs.declared.CExpr.{CExpr, CExpr-F, fold-CExpr}
 use Rattle.og_csubset.specs.declared.CExpr.TheOpen.{Number, Read, Minus, Op, Pick, Member, At}
 use Rattle.og_csubset.specs.declared.CTest.{CTest, CTest-F, fold-CTest}
 use Rattle.og_csubset.specs.declared.COp.{COp}
-use Rattle.og_csubset.specs.declared.COp.TheVariants.{Add, Sub, Mul, Div, Rem}
-use Rattle.og_csubset.specs.Tokens.{Token, name, number, operator, relation, keyword, mark, typedef_, struct_, void_, if_, goto_, switch_, case_, default_, return_, int64_t, INT64_C, open_brace, close_brace, open_square, close_square, open_round, close_round, semicolon, colon, question, dot, equals, IsToken, spelling, first_line}
+use Rattle.og_csubset.specs.declared.COp.TheVariants.{Sub}
+use Rattle.og_csubset.specs.Tokens.{Token, name, number, operator, relation, keyword, mark, typedef_, struct_, void_, if_, goto_, switch_, case_, default_, return_, int64_t, open_brace, close_brace, open_square, close_square, open_round, close_round, semicolon, colon, question, dot, equals, IsToken, spelling, first_line}
 use Rattle.og_csubset.specs.Spelling.{literal, least_text, is_sum}
 
 -- tokens before others

@@ -5,7 +5,7 @@
 -- beyond need are allowed and leave no trace in the tree, operators of one level bind to the left. A sign right before a
 -- literal that is not 0 makes a negative number, and any other sign is an operation. The twelve tokens of
 -- `(-INT64_C(9223372036854775807) - INT64_C(1))` are the number -2^63, which has no literal.
-use Rattle.std.specs.Prelude.{◌≡◌, ℕ, suc, ◌+◌, ◌-◌, ◌^◌, ◌<◌, ◌≤◌, ℤ, pos, negsuc, neg_ℤ, Bool, true, false, List, [], ◌∷◌, IsTrue, Option, Some, None}
+use Rattle.std.specs.Prelude.{◌≡◌, ℕ, suc, ◌-◌, ◌^◌, ◌<◌, ◌≤◌, ℤ, pos, negsuc, neg_ℤ, Bool, true, false, List, [], ◌∷◌, IsTrue, Some, None}
 use Rattle.og_names.specs.declared.Word.{Word}
 use Rattle.og_csubset.specs.declared.CProgram.{CProgram}
 use Rattle.og_csubset.specs.declared.CStruct.{CStruct}
@@ -173,7 +173,7 @@ pub data IsEvent : Word → List Token → List Token → Type 0 where
 pub data IsFunction : CFunction → List Token → List Token → Type 0 where
   function : {f : List ℕ} {body : List CStmt} {ts rest : List Token} → Each IsStatement body ts (mark close_brace ∷ rest)
       → IsFunction (record { name = word f; body = body })
-          (keyword void_ ∷ name f ∷ mark open_round ∷ keyword void_ ∷ mark close_round ∷ mark open_brace ∷ ts) rest
+      (keyword void_ ∷ name f ∷ mark open_round ∷ keyword void_ ∷ mark close_round ∷ mark open_brace ∷ ts) rest
 
 pub data IsProgram : CProgram → List Token → Type 0 where
   program : {structs : List CStruct} {globals : List CGlobal} {events : List Word} {functions : List CFunction}

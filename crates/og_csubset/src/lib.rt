@@ -4,7 +4,10 @@
 mod spelling_laws;
 
 use og_names::Word;
-pub use spelling_laws::{brackets, least_number, nesting_counts, one_deep_place, one_list_of_tokens, one_program, one_wrong_place, plain_text_of_each, refused, signs, white_space, whole_text};
+pub use spelling_laws::{
+    brackets, least_number, nesting_counts, one_deep_place, one_list_of_tokens, one_program,
+    one_wrong_place, plain_text_of_each, refused, signs, white_space, whole_text,
+};
 use sqlite_items::{Boxed, Items};
 
 /// A program: structs, then globals, then the events that it may show, then functions.

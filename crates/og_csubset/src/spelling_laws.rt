@@ -14,15 +14,13 @@ ghost use Rattle.og_csubset.specs.Texts.{lines, in_brackets, statements_text, as
 /// A text is spelt by at most one program.
 pub fn one_program()
     ensures { (P Q : Program) (text : List ℕ) → CSpells P text → CSpells Q text → P ≡ Q }
-{
-}
+{}
 
 /// The small program by hand, and every form of statement.
 pub fn whole_text()
     ensures counting { CSpells counting counting_text }
     ensures forms { CSpells forms forms_text }
-{
-}
+{}
 
 /// -2^63 is its twelve tokens as a bracket of their own. Other brackets around the same tokens make a difference.
 pub fn least_number()
@@ -32,8 +30,7 @@ pub fn least_number()
     ensures no_bracket { CSpells (assigning (Op Sub (Number (negsuc 9223372036854775806)) (Number (pos 1)))) (statements_text (codes "x = -INT64_C(9223372036854775807) - INT64_C(1);")) }
     ensures left_bracket { CSpells (assigning (Op Sub (Number (negsuc 9223372036854775806)) (Number (pos 1)))) (statements_text (codes "x = ((-INT64_C(9223372036854775807)) - INT64_C(1));")) }
     ensures more_behind { CSpells (assigning (Op Sub (Op Sub (Number (negsuc 9223372036854775806)) (Number (pos 1))) (Number (pos 1)))) (statements_text (codes "x = (-INT64_C(9223372036854775807) - INT64_C(1) - INT64_C(1));")) }
-{
-}
+{}
 
 /// A sign right before a literal that is not 0 makes a number, any other sign an operation.
 pub fn signs()
@@ -42,8 +39,7 @@ pub fn signs()
     ensures bracket { CSpells (assigning (Minus (Number (pos 5)))) (statements_text (codes "x = -(INT64_C(5));")) }
     ensures variable { CSpells (assigning (Minus (number_of (codes "a")))) (statements_text (codes "x = -a;")) }
     ensures behind_minus { CSpells (assigning (Op Sub (number_of (codes "a")) (Number (negsuc 0)))) (statements_text (codes "x = a - -INT64_C(1);")) }
-{
-}
+{}
 
 /// Operators of one level bind to the left, those of a product before those of a sum; brackets change this, and otherwise nothing.
 pub fn brackets()
@@ -52,15 +48,13 @@ pub fn brackets()
     ensures products { CSpells (assigning (Op Mul (Op Rem (number_of (codes "a")) (number_of (codes "b"))) (number_of (codes "c")))) (statements_text (codes "x = a % b * c;")) }
     ensures product_first { CSpells (assigning (Op Add (number_of (codes "a")) (Op Div (number_of (codes "b")) (number_of (codes "c"))))) (statements_text (codes "x = a + b / c;")) }
     ensures beyond_need { CSpells (assigning (Op Add (number_of (codes "a")) (Op Div (number_of (codes "b")) (number_of (codes "c"))))) (statements_text (codes "x = ((a) + (b / (c)));")) }
-{
-}
+{}
 
 /// White space is free between tokens.
 pub fn white_space()
     ensures none { CSpells (assigning (Op Add (number_of (codes "a")) (Number (pos 1)))) (statements_text (codes "x=a+INT64_C(1);")) }
     ensures much { CSpells (assigning (Op Add (number_of (codes "a")) (Number (pos 1)))) (statements_text (codes "  x" ++ ((9 ∷ []) ++ (codes "=" ++ ((13 ∷ []) ++ ((10 ∷ []) ++ (codes " a + INT64_C ( 1 ) ;" ++ (10 ∷ [])))))))) }
-{
-}
+{}
 
 /// Texts that no program spells.
 pub fn refused()
@@ -78,8 +72,7 @@ pub fn refused()
     ensures no_member { (P : Program) → CSpells P (lines (codes "#include <stdint.h>" ∷ codes "typedef struct { } A;" ∷ [])) → ⊥ }
     ensures size_zero { (P : Program) → CSpells P (lines (codes "#include <stdint.h>" ∷ codes "typedef struct { int64_t e[0]; } A;" ∷ [])) → ⊥ }
     ensures size_past { (P : Program) → CSpells P (lines (codes "#include <stdint.h>" ∷ codes "typedef struct { int64_t e[65537]; } A;" ∷ [])) → ⊥ }
-{
-}
+{}
 
 /// The greatest nesting of some texts, counted by hand. The braces of the function count one everywhere.
 pub fn nesting_counts()
@@ -96,8 +89,7 @@ pub fn nesting_counts()
     ensures whole_text { HasNesting counting_text 4 }
     ensures at_the_limit { HasNesting (statements_text (codes "x = " ++ (in_brackets 255 (codes "a") ++ codes ";"))) 256 }
     ensures past_the_limit { HasNesting (statements_text (codes "x = " ++ (in_brackets 256 (codes "a") ++ codes ";"))) 257 }
-{
-}
+{}
 
 /// A text nests too deep at one place, where its first token stands that passes the limit, or stays within it.
 pub fn one_deep_place()
@@ -105,25 +97,23 @@ pub fn one_deep_place()
     ensures no_place { (limit : ℕ) (text before : List ℕ) → PassesNesting limit text before → IsWithinNesting limit text → ⊥ }
     ensures place { (limit : ℕ) (text : List ℕ) (tokens : List Token) → HasTokens tokens text → limit < nesting tokens
         → (before : List ℕ) × PassesNesting limit text before }
-{
-}
+{}
 
 /// A text has one list of tokens at most.
 pub fn one_list_of_tokens()
     ensures { (tokens others : List Token) (text : List ℕ) → HasTokens tokens text → HasTokens others text → tokens ≡ others }
-{
-}
+{}
 
-/// A program with C names, numbers of 64 bits, members and sizes as the grammar has them has a text, without a bracket beyond need.
+/// A program has a text exactly where its names are C names, its numbers have 64 bits, and its members and sizes are as the
+/// grammar has them; one such text has no bracket beyond need.
 pub fn plain_text_of_each()
+    ensures well_made { (P : Program) (text : List ℕ) → CSpells P text → IsWellMade P }
     ensures spells { (P : Program) → IsWellMade P → CSpells P (plain_text P) }
     ensures nests { (P : Program) (limit : ℕ) → IsWellMade P → nesting (plain_tokens P) ≤ limit → IsWithinNesting limit (plain_text P) }
-{
-}
+{}
 
 /// A text goes wrong at one place at most, and at none where a program spells it.
 pub fn one_wrong_place()
     ensures unique { (text before other : List ℕ) → GoesWrong text before → GoesWrong text other → before ≡ other }
     ensures nowhere { (P : Program) (text before : List ℕ) → CSpells P text → GoesWrong text before → ⊥ }
-{
-}
+{}
