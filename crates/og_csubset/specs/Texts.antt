@@ -10,7 +10,7 @@ use Rattle.og_csubset.specs.declared.CStep.{Member, At}
 use Rattle.og_csubset.specs.declared.CExpr.{CExpr, Number, Read, Minus, Op, Pick}
 use Rattle.og_csubset.specs.declared.COp.TheVariants.{Add}
 use Rattle.og_csubset.specs.declared.CRel.TheVariants.{Eq, Lt}
-use Rattle.og_csubset.specs.Spelling.{word, least}
+use Rattle.og_csubset.specs.Spelling.{word, least, CSpells}
 
 -- lines with their ends
 abbrev pub lines : List (List ℕ) → List ℕ
@@ -36,6 +36,18 @@ assigning e = doing (Assign (variable (codes "x")) e ∷ [])
 
 abbrev pub number_of : List ℕ → CExpr
 number_of v = Read (variable v)
+
+-- no program has this text
+abbrev pub SpeltByNone : List ℕ → Type 0
+SpeltByNone text = (P : CProgram) → CSpells P text → ⊥
+
+-- the statement, alone in its function, assigns this to `x`
+abbrev pub Assigns : CExpr → List ℕ → Type 0
+Assigns e statement = CSpells (assigning e) (statements_text statement)
+
+-- `x = a + INT64_C(1);` with much white space
+abbrev pub spaced_statement : List ℕ
+spaced_statement = codes "  x" ++ 9 ∷ codes "=" ++ 13 ∷ 10 ∷ codes " a + INT64_C ( 1 ) ;" ++ 10 ∷ []
 
 -- this many brackets round it
 abbrev pub in_brackets : ℕ → List ℕ → List ℕ
