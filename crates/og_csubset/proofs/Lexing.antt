@@ -138,7 +138,6 @@ pub digit_to : (b : ℕ) → IsInRange 48 57 b → is_digit b ≡ true
 digit_to b h = and_from (nat_le 48 b) (nat_le b 57) (le-leb 48 b h.0) (le-leb b 57 h.1)
 
 tells : IsDigitsTest all_digits
-unfolding all_digits
 tells = record {
   empty = refl;
   parts = λ c cs h. (digit_from c (and_parts (is_digit c) (list_all is_digit cs) h).0, (and_parts (is_digit c) (list_all is_digit cs) h).1);
@@ -149,7 +148,6 @@ pub own : IsNumeralModel all_digits (digits_value 10)
 own = numerals_by_value all_digits tells
 
 is_digits : (n : ℕ) → n < 2 ^ 63 → list_all is_digit (decimal n) ≡ true
-unfolding all_digits
 is_digits n h = digits_decimal own n (omega arith)
 
 same_bytes : (w : List ℕ) → bytes_eq w w ≡ true

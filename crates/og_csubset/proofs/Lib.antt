@@ -1,3 +1,9 @@
+pub mod ExampleRuns
+pub mod MachineRuns
+pub mod RunLaws
+pub mod Depth
+pub mod FlatExampleRuns
+pub mod BoundedRuns
 pub mod Lexing
 pub mod Lexed
 pub mod Reading
@@ -5,7 +11,7 @@ pub mod Seen
 pub mod Complete
 pub mod Sound
 pub mod Text
-pub mod Examples
+pub mod TextExamples
 pub mod Nested
 pub mod Sizes
 pub mod PlainTexts

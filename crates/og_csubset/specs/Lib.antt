@@ -1,6 +1,17 @@
+pub mod Kinds
+pub mod Interface
+pub mod Loading
+pub mod Step
+pub mod Reads
+pub mod Run
+pub mod Agreement
+pub mod FlatRun
 pub mod Tokens
 pub mod Spelling
 pub mod Nesting
+pub mod Fair
+pub mod Examples
+pub mod FlatExamples
 pub mod Texts
 pub mod Plain
 pub mod Wrong

@@ -1,6 +1,9 @@
 //! Programs of the C subset as trees.
 #![tactic(auto)]
 
+mod flat_examples;
+mod run_examples;
+mod run_laws;
 mod spelling_laws;
 
 use og_names::Word;
@@ -9,6 +12,9 @@ pub use spelling_laws::{
     one_wrong_place, plain_text_of_each, refused, signs, white_space, whole_text,
 };
 use sqlite_items::{Boxed, Items};
+pub use flat_examples::flat_code_runs;
+pub use run_examples::{hand_written_text_runs, load_rules_are_reported, single_statements_compute};
+pub use run_laws::{agreeing_programs_show_the_same, code_within_64_bits, ended_program_stays, more_instructions_go_on, more_statements_go_on, statements_split, values_of_parts};
 
 /// A program: structs, then globals, then the events that it may show, then functions.
 #[derive(Drop)]
@@ -127,4 +133,19 @@ pub enum CRel {
     Le,
     Gt,
     Ge,
+}
+
+/// The rules that a program must satisfy before it can be run over a model, in the order in which they are tried:
+/// K3 a name that stands twice, K4 a struct type that is used before it is defined, K5 a place or a number of the wrong
+/// kind, K6 a label or a case that is missing or stands twice, K7 a call of nothing that is there, K8 too many cells,
+/// K9 an interface that is not the model's.
+#[derive(Clone, Copy, Debug, PartialEq, Eq)]
+pub enum LoadRule {
+    K3,
+    K4,
+    K5,
+    K6,
+    K7,
+    K8,
+    K9,
 }

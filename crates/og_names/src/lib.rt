@@ -1,8 +1,15 @@
 //! Names: words of bytes, and a table that numbers folded names in the order in which they come.
 #![tactic(auto)]
 
+mod laws;
+mod memory;
 mod names;
+mod spelling;
 
+pub use laws::{
+    absent_names_have_none, earlier_numbers_stay, folding_twice, numbers_lead_back,
+    one_number_for_one_name,
+};
 pub use names::Names;
 use sqlite_items::Items;
 
@@ -19,3 +26,6 @@ pub struct NameId(pub u32);
 pub struct Word {
     pub bytes: Items<u8>,
 }
+
+#[cfg(test)]
+mod tests;

@@ -1,8 +1,11 @@
 //! Types of data after ASN.1 (X.680), and the values of these types.
 #![tactic(auto)]
 
+ghost use Rattle.std.specs.Prelude.{◌≡◌, []};
+
 use og_names::NameId;
 use sqlite_items::{Boxed, Items};
+use std::alloc::Global;
 use std::marker::Model;
 
 /// The number of a type in its table, counted from 0.
@@ -20,14 +23,28 @@ pub struct Part {
 #[derive(Debug, Drop)]
 pub enum Sort {
     /// The whole numbers from `lo` to `hi`.
-    Int { lo: i64, hi: i64 },
+    Int {
+        lo: i64,
+        hi: i64,
+    },
     Bool,
     /// The names of the enumerators in the order of the text, and the number of each (X.680 section 20).
-    Enumerated { names: Items<NameId>, numbers: Items<i64> },
-    Sequence { parts: Items<Part> },
-    Choice { parts: Items<Part> },
+    Enumerated {
+        names: Items<NameId>,
+        numbers: Items<i64>,
+    },
+    Sequence {
+        parts: Items<Part>,
+    },
+    Choice {
+        parts: Items<Part>,
+    },
     /// A sequence of `lo` to `hi` items of one type.
-    SeqOf { lo: u32, hi: u32, item: TypeId },
+    SeqOf {
+        lo: u32,
+        hi: u32,
+        item: TypeId,
+    },
     /// A type that `og` reads and does not support.
     Opaque,
 }
@@ -59,4 +76,15 @@ impl Model for TypeTable {
     ghost Value = { List Sort };
 
     ghost view = { λ t. t.sorts };
+}
+
+impl TypeTable {
+    /// A table without types.
+    pub fn new(alloc: Global) -> TypeTable
+        ensures { result ≡ [] }
+    {
+        TypeTable {
+            sorts: Items::new(alloc),
+        }
+    }
 }

@@ -1,0 +1,4 @@
+pub mod Store
+pub mod Memory
+pub mod Order
+pub mod Sink

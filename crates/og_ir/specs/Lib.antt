@@ -1,0 +1,5 @@
+pub mod Cells
+pub mod Reading
+pub mod Arithmetic
+pub mod Steps
+pub mod FlatSteps

@@ -1,0 +1,7 @@
+pub mod Cutting
+pub mod Ends
+pub mod Fronts
+pub mod Placing
+pub mod Reading
+pub mod Reserved
+pub mod Scans

@@ -1,0 +1,11 @@
+use Rattle.og_lexer.proofs.Cutting.{lexes-once, violation-once, lexes-apart}
+use Rattle.og_lexer.proofs.laws.one_reading.Goals as goal
+
+pub returns-clause-tokens : goal.returns-clause-tokens
+returns-clause-tokens c = lexes-once
+
+pub returns-clause-violation : goal.returns-clause-violation
+returns-clause-violation c = violation-once
+
+pub returns-clause-apart : goal.returns-clause-apart
+returns-clause-apart c = lexes-apart

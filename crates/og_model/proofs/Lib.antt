@@ -1,0 +1,7 @@
+pub mod Computing
+pub mod MoreUnits
+pub mod MoreOfModel
+pub mod RunLaws
+pub mod Depth
+pub mod Labels
+pub mod Pasts

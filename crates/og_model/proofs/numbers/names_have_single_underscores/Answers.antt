@@ -1,0 +1,7 @@
+use Rattle.std.proofs.lemmas.Bool.{false≢true}
+use Rattle.og_model.proofs.Computing.{trees}
+use Rattle.og_model.proofs.numbers.names_have_single_underscores.Goals as goal
+
+pub returns : goal.returns
+unfolding trees
+returns c = λ w. false≢true w.rules.plain_signals
