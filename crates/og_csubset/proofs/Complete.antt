@@ -1,5 +1,5 @@
 -- The reader finds each tree where the grammar has one. The fuel that the tokens' number gives always suffices.
-use Rattle.std.proofs.Common.{◌≡◌, ℕ, zero, suc, ◌+◌, ◌-◌, ◌^◌, ◌<◌, ◌≤◌, Bool, true, false, cond, List, [], ◌∷◌, length, IsTrue, ℤ, pos, negsuc, neg_ℤ, Option, Some, None, refl, sym, ap, ◌∙◌, subst, arith, le-leb, lt-ltb}
+use Rattle.std.proofs.Common.{◌≡◌, ℕ, zero, suc, ◌-◌, ◌^◌, ◌<◌, ◌≤◌, true, List, [], ◌∷◌, length, ℤ, pos, negsuc, Some, None, refl, sym, ap, ◌∙◌, subst, arith, le-leb, lt-ltb}
 use Rattle.std.proofs.lemmas.Bool.{true≢false}
 use Rattle.og_names.specs.declared.Word.{Word}
 use Rattle.og_csubset.specs.declared.CProgram.{CProgram}
@@ -7,10 +7,9 @@ use Rattle.og_csubset.specs.declared.CStruct.{CStruct}
 use Rattle.og_csubset.specs.declared.CMember.{CMember}
 use Rattle.og_csubset.specs.declared.CGlobal.{CGlobal}
 use Rattle.og_csubset.specs.declared.CType.{CType}
-use Rattle.og_csubset.specs.declared.CType.TheVariants.{Int64, Struct}
 use Rattle.og_csubset.specs.declared.CFunction.{CFunction}
 use Rattle.og_csubset.specs.declared.CStmt.{CStmt}
-use Rattle.og_csubset.specs.declared.CStmt.TheVariants.{Assign, IfGoto, Goto, Label, Switch, Call, Return}
+use Rattle.og_csubset.specs.declared.CStmt.TheVariants.{Assign}
 use Rattle.og_csubset.specs.declared.CCase.{CCase}
 use Rattle.og_csubset.specs.declared.CPlace.{CPlace}
 use Rattle.og_csubset.specs.declared.CStep.{CStep, Member, At}
@@ -19,26 +18,26 @@ use Rattle.og_csubset.specs.declared.CTest.{CTest}
 use Rattle.og_csubset.specs.declared.COp.{COp}
 use Rattle.og_csubset.specs.declared.COp.TheVariants.{Add, Sub, Mul, Div, Rem}
 use Rattle.og_csubset.specs.declared.CRel.{CRel}
-use Rattle.og_csubset.specs.Tokens.{Token, name, number, operator, relation, keyword, mark, Keyword, typedef_, struct_, void_, if_, goto_, switch_, case_, default_, return_, int64_t, INT64_C, Mark, open_brace, close_brace, open_square, close_square, open_round, close_round, semicolon, colon, question, dot, equals}
+use Rattle.og_csubset.specs.Tokens.{Token, name, number, operator, relation, keyword, mark, Mark, open_brace, close_brace, open_square, close_square, open_round, close_round, semicolon, colon, question, dot, equals}
 use Rattle.og_csubset.specs.Spelling.{word, least, literal, least_text, is_sum, is_product, IsSum, sum, SumGoesOn, sum_ends, add, IsProduct, product, ProductGoesOn, product_ends, multiply, IsSigned, positive, negative, minus_zero, unsigned, minus, IsOperand, read, bracket, pick, least_number, IsTest, test, IsPlace, place, IsPath, path_ends, member, index, Each, none, one_more, IsConstant, constant, negative_constant, least_constant, IsCase, case_goto, IsStatement, assign, if_goto, goto, label, switch, call, return, IsType, number_type, struct_type, IsMember, single, array, IsStruct, structure, IsGlobal, global, IsEvent, event, IsFunction, function, IsProgram, program, CSpells}
 use Rattle.og_csubset.proofs.Lexing.{HasTokens-unique}
 use Rattle.og_csubset.proofs.Seen.{not_least, Some-same}
-use Rattle.og_csubset.proofs.Reading.{Found, Reader, and_then, or_else, literal_at, least_at, least_end, negated, bracket_end, path_at, operand_at, signed_at, product_rest, product_at, sum_rest, sum_at, number_at, test_at, each_step, each_at, constant_at, case_at, named_at, goto_at, if_at, switch_at, return_at, statement_at, type_at, member_end, member_at, struct_end, struct_at, global_at, head_at, event_at, function_at, whole, program_at, read_tokens}
+use Rattle.og_csubset.proofs.Reading.{Found, Reader, least_at, negated, bracket_end, path_at, operand_at, signed_at, product_rest, product_at, sum_rest, sum_at, number_at, test_at, each_at, constant_at, case_at, named_at, goto_at, if_at, switch_at, return_at, statement_at, type_at, member_end, member_at, struct_end, struct_at, global_at, head_at, event_at, function_at, program_at, read_tokens}
 
 -- what a text of a number can go on with: at 0 a selector, at 1 an operator of a product, at 2 one of a sum, at 3 none
-abbrev operator_level : COp → ℕ
+abbrev pub operator_level : COp → ℕ
 operator_level Add = 2
 operator_level Sub = 2
 operator_level Mul = 1
 operator_level Div = 1
 operator_level Rem = 1
 
-abbrev mark_level : Mark → ℕ
+abbrev pub mark_level : Mark → ℕ
 mark_level dot = 0
 mark_level open_square = 0
 mark_level _ = 3
 
-abbrev level : List Token → ℕ
+abbrev pub level : List Token → ℕ
 level [] = 3
 level (operator op ∷ ts) = operator_level op
 level (mark m ∷ ts) = mark_level m
@@ -232,7 +231,7 @@ number_by zero ts r h some fits = absurd (omega arith)
 number_by (suc d) ts r h some fits = h d fits
 
 -- the tokens of -2^63, as a sum, end at a closing bracket
-least_sum : (d f : ℕ) (rest : List Token)
+pub least_sum : (d f : ℕ) (rest : List Token)
     → sum_at (number_at d) (suc (suc f)) (operator Sub ∷ literal (2 ^ 63 - 1) (operator Sub ∷ literal 1 (mark close_round ∷ rest)))
     ≡ Some (Op Sub (Number (negsuc (2 ^ 63 - 2))) (Number (pos 1)), mark close_round ∷ rest)
 unfolding sum_at product_at signed_at sum_rest product_rest
@@ -251,11 +250,14 @@ not_least_test d a op ts us h fits more same = go d (subst (λ l. number_at d l 
   where
     text : List Token
     text = operator Sub ∷ literal (2 ^ 63 - 1) (operator Sub ∷ literal 1 (mark close_round ∷ more))
+
     tail : List Token → List Token
     tail [] = []
     tail (u ∷ vs) = vs
+
     inside : ts ≡ text
     inside = ap tail same
+
     go : (k : ℕ) → number_at k text ≡ Some (a, relation op ∷ us) → length text ≤ k → ⊥
     go zero e within = absurd (omega (arith, within))
     go (suc zero) e within = absurd (omega (arith, within))
@@ -272,12 +274,12 @@ product_rest_level product_ends h = omega arith
 product_rest_level (multiply {op} is p more) h = omega (arith, level_product op is)
 
 mutual
-  sum_complete : {e : CExpr} {ts rest : List Token} → IsSum e ts rest → (d f : ℕ) → level rest ≡ 3 → length ts ≤ suc d → length ts ≤ f
+  pub sum_complete : {e : CExpr} {ts rest : List Token} → IsSum e ts rest → (d f : ℕ) → level rest ≡ 3 → length ts ≤ suc d → length ts ≤ f
       → sum_at (number_at d) f ts ≡ Some (e, rest)
   sum_complete (sum p more) d f ends fits enough =
       let shorter = product_shrinks p in
       sum_by (number_at d) f _ _ _ _ (product_complete p d f (sum_rest_level more ends) fits enough)
-          (sum_rest_complete more d f ends (omega arith) (omega arith))
+      (sum_rest_complete more d f ends (omega arith) (omega arith))
 
   sum_rest_complete : {a e : CExpr} {ts rest : List Token} → SumGoesOn a e ts rest → (d f : ℕ) → level rest ≡ 3 → length ts ≤ suc d → length ts ≤ f
       → sum_rest (number_at d) f a ts ≡ Some (e, rest)
@@ -286,14 +288,14 @@ mutual
   sum_rest_complete (add {op} is p more) d (suc f) ends fits enough =
       let shorter = product_shrinks p in
       sum_rest_by (number_at d) f op _ _ _ _ _ is (product_complete p d f (sum_rest_level more ends) (omega arith) (omega arith))
-          (sum_rest_complete more d f ends (omega arith) (omega arith))
+      (sum_rest_complete more d f ends (omega arith) (omega arith))
 
   product_complete : {e : CExpr} {ts rest : List Token} → IsProduct e ts rest → (d f : ℕ) → 1 < level rest → length ts ≤ suc d → length ts ≤ f
       → product_at (number_at d) f ts ≡ Some (e, rest)
   product_complete (product p more) d f ends fits enough =
       let shorter = signed_shrinks p in
       product_by (number_at d) f _ _ _ _ (signed_complete p d f (product_rest_level more ends) fits enough)
-          (product_rest_complete more d f ends (omega arith) (omega arith))
+      (product_rest_complete more d f ends (omega arith) (omega arith))
 
   product_rest_complete : {a e : CExpr} {ts rest : List Token} → ProductGoesOn a e ts rest → (d f : ℕ) → 1 < level rest → length ts ≤ suc d → length ts ≤ f
       → product_rest (number_at d) f a ts ≡ Some (e, rest)
@@ -302,7 +304,7 @@ mutual
   product_rest_complete (multiply {op} is p more) d (suc f) ends fits enough =
       let shorter = signed_shrinks p in
       product_rest_by (number_at d) f op _ _ _ _ _ is (signed_complete p d f (product_rest_level more ends) (omega arith) (omega arith))
-          (product_rest_complete more d f ends (omega arith) (omega arith))
+      (product_rest_complete more d f ends (omega arith) (omega arith))
 
   signed_complete : {e : CExpr} {ts rest : List Token} → IsSigned e ts rest → (d f : ℕ) → 0 < level rest → length ts ≤ suc d → length ts ≤ f
       → signed_at (number_at d) f ts ≡ Some (e, rest)
@@ -324,7 +326,7 @@ mutual
       let last_shorter = sum_shrinks r in
       let first = number_by d _ _ (λ k within. sum_complete p k (suc k) refl within within) (omega (arith, sum_shrinks p)) (omega arith) in
       pick_by (number_at d) f op _ _ _ _ _ _ _ _ _ (not_least _ (not_least_test d _ op _ _ first (omega arith))) first
-          (number_by d _ _ (λ k within. sum_complete q k (suc k) refl within within) (omega (arith, sum_shrinks q)) (omega arith)) (number_by d _ _ (λ k within. sum_complete r k (suc k) refl within within) (omega (arith, sum_shrinks r)) (omega arith)) (number_by d _ _ (λ k within. sum_complete s k (suc k) refl within within) (omega (arith, sum_shrinks s)) (omega arith))
+      (number_by d _ _ (λ k within. sum_complete q k (suc k) refl within within) (omega (arith, sum_shrinks q)) (omega arith)) (number_by d _ _ (λ k within. sum_complete r k (suc k) refl within within) (omega (arith, sum_shrinks r)) (omega arith)) (number_by d _ _ (λ k within. sum_complete s k (suc k) refl within within) (omega (arith, sum_shrinks s)) (omega arith))
   operand_complete least_number d f ends fits enough = least_by (number_at d) f _
 
   path_complete : {steps : List CStep} {ts rest : List Token} → IsPath steps ts rest → (d f : ℕ) → 0 < level rest → length ts ≤ suc d → length ts ≤ f

@@ -1,14 +1,14 @@
 pub mod Lexing
-mod Reading
-mod Seen
-mod Complete
-mod Sound
-mod Lexed
-mod Text
+pub mod Reading
+pub mod Seen
+pub mod Complete
+pub mod Sound
+pub mod Lexed
+pub mod Text
 mod Examples
-mod Nested
-mod Sizes
-mod PlainTexts
+pub mod Nested
+pub mod Sizes
+pub mod PlainTexts
 pub mod Depth
 pub mod MachineRuns
 pub mod RunLaws
@@ -17,3 +17,8 @@ pub mod ExampleRuns
 pub mod FlatExampleRuns
 pub mod Extension
 pub mod ExtensionRuns
+pub mod TextExamples
+pub mod PlainSpelt
+pub mod TextLayout
+pub mod WrongPlace
+pub mod WellMade

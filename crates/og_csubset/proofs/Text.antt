@@ -1,11 +1,10 @@
 -- Reading a program off the bytes of a text: it finds exactly the program that the text spells.
-use Rattle.std.proofs.Common.{◌≡◌, ℕ, zero, suc, ◌+◌, ◌<◌, ◌≤◌, Bool, true, false, cond, List, [], ◌∷◌, ◌++◌, length, ◌==◌, if◌then◌else◌, Option, Some, None, option_map, option_and_then, refl, sym, ap, ◌∙◌, subst, arith, append-nil, length-append, eqb-true, eq-eqb, ap₂}
+use Rattle.std.proofs.Common.{◌≡◌, ℕ, zero, suc, ◌<◌, ◌≤◌, Bool, true, false, cond, List, [], ◌∷◌, ◌++◌, length, ◌==◌, Option, Some, None, option_map, option_and_then, refl, sym, ap, ◌∙◌, subst, arith, length-append, eqb-true, eq-eqb, ap₂}
 use Rattle.std.specs.List.{list_all}
-use Rattle.std.proofs.lemmas.Bool.{true≢false, cases_Bool}
 use Rattle.og_csubset.specs.declared.CProgram.{CProgram}
-use Rattle.og_csubset.specs.Tokens.{Token, spelling, is_space, IsToken, Begins, Cuts, Lexes, HasTokens, first_line}
+use Rattle.og_csubset.specs.Tokens.{Token, spelling, is_space, IsToken, Begins, Lexes, HasTokens, first_line}
 use Rattle.og_csubset.specs.Nesting.{nesting, HasNesting}
-use Rattle.og_csubset.specs.Spelling.{IsProgram, CSpells}
+use Rattle.og_csubset.specs.Spelling.{CSpells}
 use Rattle.og_csubset.proofs.Lexing.{first_token, next_token, next-begins, next-blank, token_found}
 use Rattle.og_csubset.proofs.Lexed.{begins-next}
 use Rattle.og_csubset.proofs.Reading.{read_tokens}
@@ -38,6 +37,7 @@ lex_sound (suc f) bytes ts h = go (λ rest us. lex_sound f rest us) (list_all is
   where
     Later : Type 0
     Later = (rest : List ℕ) (us : List Token) → lex f rest ≡ Some us → Lexes us rest
+
     go : Later → (c : Bool) (o : Option (Token × List ℕ)) → list_all is_space bytes ≡ c → next_token bytes ≡ o
         → lex_step c o (λ rest. lex f rest) ≡ Some ts → Lexes ts bytes
     go later true o e k h = subst (λ l. Lexes l bytes) (Some-same [] ts h) (bytes, refl, e)
@@ -53,6 +53,7 @@ some_byte t is = go (spelling t) refl
   where
     found : first_token (spelling t ++ []) ≡ Some (t, [])
     found = token_found t [] is tt
+
     go : (w : List ℕ) → spelling t ≡ w → 0 < length (spelling t)
     go [] e = nothing (t, []) (sym (ap (λ l. first_token (l ++ [])) e) ∙ found)
     go (b ∷ bs) e = omega (arith, ap (λ l. length l) e)
@@ -73,6 +74,7 @@ lex_complete (suc f) (t ∷ ts) bytes h fits =
   where
     first : next_token bytes ≡ Some (t, h.1.0)
     first = next-begins bytes t h.1.0 h.1.1
+
     go : (c : Bool) → list_all is_space bytes ≡ c → lex f h.1.0 ≡ Some ts → lex_step c (next_token bytes) (λ rest. lex f rest) ≡ Some (t ∷ ts)
     go true e later = nothing (t, h.1.0) (sym (next-blank bytes e) ∙ first)
     go false e later = rw (first, later)
