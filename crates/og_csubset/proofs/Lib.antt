@@ -5,7 +5,6 @@ pub mod Complete
 pub mod Sound
 pub mod Lexed
 pub mod Text
-mod Examples
 pub mod Nested
 pub mod Sizes
 pub mod PlainTexts
