@@ -1,9 +1,14 @@
 //! The top call.
-ghost use Rattle.std.specs.Prelude.{◌≡◌, ◌≤◌, ◌↔◌, ◌⊎◌, ℕ, List, length, map, string_bytes, MatchResult, IfOk};
-ghost use Rattle.og_base.specs.Store.{Holds};
-ghost use Rattle.og_base.specs.Sink.{grown, WroteFront};
-ghost use Rattle.og_tool.specs.Answers.{limit, IsTextFor, IsReportFor, WroteC, WroteReport, WroteSome, FailedToRead, IsTooLarge};
-ghost use Rattle.og_tool.specs.Files.{IsAccepted, FirstViolation};
+ghost use Rattle.std.specs.Prelude.{◌≡◌, ◌≤◌, ◌<◌, ◌↔◌, ℕ, List, ◌∷◌, None, length, map, string_bytes, IfOk, IfErr};
+ghost use Rattle.og_base.specs.declared.Rule.TheVariants as rule;
+ghost use Rattle.og_base.specs.Store.{Rose};
+ghost use Rattle.og_cprint.specs.Heading.{BeginsWithHeading};
+ghost use Rattle.og_lexer.specs.declared.Spanned.{Spanned};
+ghost use Rattle.og_tool.specs.Answering.{BytesAnswer, FileAnswer, LineAnswer, IsFirst, IsFirstOfRules};
+ghost use Rattle.og_tool.specs.Answers.{limit, IsTextFor, WroteC, WroteReport, WroteSome, FailedToRead, IsTooLarge};
+ghost use Rattle.og_tool.specs.Files.{report_line as line_of};
+ghost use Rattle.og_tool.specs.Names.{HasShortNames};
+ghost use Rattle.og_tool.specs.Rules.{first_of_rules};
 ghost use Rattle.og_tool.specs.Words.{IsNoCommand};
 
 use crate::build::model_of;
@@ -12,6 +17,7 @@ use crate::parse::{ParseError, parse_system};
 use crate::report::report_line;
 use crate::rules::{first_violation, tables_of};
 use crate::status::Status;
+use crate::syntax::SystemText;
 use crate::words::file_to_compile;
 use og_base::{ModelError, ReadError, Rule, Sink, Store, Violation, read_all, write_all};
 use og_lexer::{Spanned, lex_sdl};
@@ -65,7 +71,7 @@ pub fn run_tool<S: Store, K: Sink>(
 
 /// Carries out `cc` for the file of this name.
 fn compile_file<S: Store, K: Sink>(alloc: Global, file: &str, store: &mut S, out: &mut K) -> Status
-    ensures answer { FileAnswer result file.now (S.holds store.old) (S.faults store.old) (S.faults store.new) (K.written out.old) (K.written out.new) (K.faults out.old) (K.faults out.new) }
+    ensures answer { FileAnswer result (S.holds store.old) file.now (S.faults store.old file.now) (S.faults store.new file.now) (K.written out.old) (K.written out.new) (K.faults out.old) (K.faults out.new) }
     ensures kept { S.holds store.new ≡ S.holds store.old }
     ensures store_counts { (other : List ℕ) → S.faults store.old other ≤ S.faults store.new other }
     ensures sink_counts { K.faults out.old ≤ K.faults out.new }
@@ -140,7 +146,7 @@ fn text_of_system(alloc: Global, system: &SystemText) -> Result<Vec<u8>, ModelEr
 /// F1 at the first token.
 fn no_sentence(tokens: &[Spanned]) -> ModelError
     requires { 0 < length tokens.now }
-    ensures { (first : Spanned) × (more : List Spanned) × (tokens.now ≡ first ∷ more) × (result ≡ ModelError.Broken (record { rule = Rule.F1; place = first.place })) }
+    ensures { (first : Spanned) × (more : List Spanned) × (tokens.now ≡ first ∷ more) × (result ≡ ModelError.Broken (record { rule = rule.F1; place = first.place })) }
 {
     ModelError::Broken(Violation {
         rule: Rule::F1,
