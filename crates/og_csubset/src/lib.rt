@@ -5,6 +5,7 @@ mod flat_examples;
 mod run_examples;
 mod run_laws;
 mod spelling_laws;
+mod copy;
 
 use og_names::Word;
 pub use spelling_laws::{

@@ -3,6 +3,7 @@
 
 mod step_laws;
 mod value_laws;
+mod copy;
 
 use og_names::Word;
 use og_types::TypeId;

@@ -12,6 +12,8 @@ pub use numbers::{
     processes_have_a_start, regions_of_nested_states, regions_of_two_states,
     signals_are_handled_once, states_are_there, two_states_are_well_formed,
 };
+mod copy;
+
 use og_base::Place;
 use og_names::{NameId, Names};
 use og_types::{TypeId, TypeTable, Value};
