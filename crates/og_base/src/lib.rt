@@ -3,12 +3,14 @@
 
 mod conversions;
 mod memory;
+mod order;
 mod read;
 mod sink;
 mod store;
 mod write;
 
 pub use memory::{MemFile, MemSink, MemStore, NeverFailSink, NeverFailStore};
+pub use order::sooner;
 pub use read::{ReadError, read_all};
 pub use sink::Sink;
 pub use store::{Failed, Store};

@@ -17,7 +17,7 @@ use Rattle.og_csubset.specs.declared.CRel.TheVariants.{Eq, Ne, Lt, Le, Gt, Ge}
 use Rattle.og_csubset.specs.Tokens.{Keyword, typedef_, struct_, void_, if_, goto_, switch_, case_, default_, return_, int64_t, INT64_C, Mark, open_brace, close_brace, open_square, close_square, open_round, close_round, semicolon, colon, question, dot, equals, Token, name, number, operator, relation, keyword, mark, spelling, is_between, is_letter, is_digit, is_word_byte, is_space, is_word, is_reserved, is_name, IsToken, joins, MayFollow, Begins, Cuts, Lexes, HasTokens, first_line}
 
 -- the bytes before the first one that fails the test, and the others
-pub cut : (ℕ → Bool) → List ℕ → List ℕ × List ℕ
+unfoldable pub cut : (ℕ → Bool) → List ℕ → List ℕ × List ℕ
 cut p [] = ([], [])
 cut p (b ∷ bs) = cond (p b) (b ∷ (cut p bs).0, (cut p bs).1) ([], b ∷ bs)
 
@@ -37,7 +37,7 @@ cut-append p (b ∷ bs) rest all stops =
     let parts = and_parts (p b) (list_all p bs) all in rw (parts.0, cut-append p bs rest parts.1 stops)
 
 -- the keyword that these bytes write
-pub keyword_of : List ℕ → Option Token
+unfoldable pub keyword_of : List ℕ → Option Token
 keyword_of w =
     if bytes_eq w (codes "typedef") then Some (keyword typedef_)
     else (if bytes_eq w (codes "struct") then Some (keyword struct_)
@@ -53,11 +53,11 @@ keyword_of w =
     else None))))))))))
 
 -- the token of a word
-pub word_token : List ℕ → Option Token
+unfoldable pub word_token : List ℕ → Option Token
 word_token w = if is_reserved w then keyword_of w else Some (name w)
 
 -- the token of a run of digits
-pub number_token : List ℕ → Option Token
+unfoldable pub number_token : List ℕ → Option Token
 number_token ds =
     if bytes_eq (decimal (digits_value 10 ds)) ds && nat_lt (digits_value 10 ds) (2 ^ 63) then Some (number (digits_value 10 ds)) else None
 
@@ -71,7 +71,7 @@ longer c long short [] = with_rest short []
 longer c long short (b ∷ bs) = cond (b == c) (with_rest long bs) (with_rest short (b ∷ bs))
 
 -- the token that begins with this byte, which is no letter and no digit
-pub sign_token : ℕ → List ℕ → Option (Token × List ℕ)
+unfoldable pub sign_token : ℕ → List ℕ → Option (Token × List ℕ)
 sign_token b bs =
     if b == 123 then Some (mark open_brace, bs)
     else (if b == 125 then Some (mark close_brace, bs)
@@ -95,7 +95,7 @@ sign_token b bs =
     else None))))))))))))))))))
 
 -- the token that the bytes begin with, and the rest
-pub first_token : List ℕ → Option (Token × List ℕ)
+unfoldable pub first_token : List ℕ → Option (Token × List ℕ)
 first_token [] = None
 first_token (b ∷ bs) =
     if is_letter b then with_rest (word_token (cut is_word_byte (b ∷ bs)).0) (cut is_word_byte (b ∷ bs)).1
@@ -128,13 +128,13 @@ unfolding word_token
 name_token w h = rw h
 
 -- the digits of a number
-all_digits : List ℕ → Type 0
+abbrev pub all_digits : List ℕ → Type 0
 all_digits ds = list_all is_digit ds ≡ true
 
-digit_from : (b : ℕ) → is_digit b ≡ true → IsInRange 48 57 b
+pub digit_from : (b : ℕ) → is_digit b ≡ true → IsInRange 48 57 b
 digit_from b h = let parts = and_parts (nat_le 48 b) (nat_le b 57) h in (leb-true 48 b parts.0, leb-true b 57 parts.1)
 
-digit_to : (b : ℕ) → IsInRange 48 57 b → is_digit b ≡ true
+pub digit_to : (b : ℕ) → IsInRange 48 57 b → is_digit b ≡ true
 digit_to b h = and_from (nat_le 48 b) (nat_le b 57) (le-leb 48 b h.0) (le-leb b 57 h.1)
 
 tells : IsDigitsTest all_digits
@@ -145,7 +145,7 @@ tells = record {
   more = λ c cs h k. and_from (is_digit c) (list_all is_digit cs) (digit_to c h) k;
 }
 
-own : IsNumeralModel all_digits (digits_value 10)
+pub own : IsNumeralModel all_digits (digits_value 10)
 own = numerals_by_value all_digits tells
 
 is_digits : (n : ℕ) → n < 2 ^ 63 → list_all is_digit (decimal n) ≡ true
@@ -307,7 +307,7 @@ no_space_first (keyword k) rest is = keyword_space k rest
 no_space_first (mark m) rest is = mark_space m rest
 
 -- the first token behind white space, and the rest
-pub next_token : List ℕ → Option (Token × List ℕ)
+unfoldable pub next_token : List ℕ → Option (Token × List ℕ)
 next_token bytes = first_token (cut is_space bytes).1
 
 pub next-begins : (bytes : List ℕ) (t : Token) (rest : List ℕ) → Begins bytes t rest → next_token bytes ≡ Some (t, rest)
@@ -317,20 +317,20 @@ next-begins bytes t rest h =
     rw (h.joined, c, token_found t rest h.is_token h.follows)
 
 -- where only white space is left no token stands
-next-blank : (bytes : List ℕ) → list_all is_space bytes ≡ true → next_token bytes ≡ None
+pub next-blank : (bytes : List ℕ) → list_all is_space bytes ≡ true → next_token bytes ≡ None
 unfolding next_token first_token
 next-blank bytes h =
     let c : cut is_space (bytes ++ []) ≡ (bytes, []) = cut-append is_space bytes [] h tt in
     let e : cut is_space bytes ≡ (bytes, []) = rw append-nil at c in
     rw e
 
-same_first : (bytes : List ℕ) (t u : Token) (rest more : List ℕ) → Begins bytes t rest → Begins bytes u more → (t ≡ u) × (rest ≡ more)
+pub same_first : (bytes : List ℕ) (t u : Token) (rest more : List ℕ) → Begins bytes t rest → Begins bytes u more → (t ≡ u) × (rest ≡ more)
 same_first bytes t u rest more h k =
     let e : Some (t, rest) ≡ Some (u, more) = sym (next-begins bytes t rest h) ∙ next-begins bytes u more k in
     let both : Option (Token × List ℕ) → Token × List ℕ = λ o. unwrap_or o (t, rest) in
     (ap (λ o. (both o).0) e, ap (λ o. (both o).1) e)
 
-nothing_first : (bytes : List ℕ) (t : Token) (rest : List ℕ) → list_all is_space bytes ≡ true → Begins bytes t rest → ⊥
+pub nothing_first : (bytes : List ℕ) (t : Token) (rest : List ℕ) → list_all is_space bytes ≡ true → Begins bytes t rest → ⊥
 nothing_first bytes t rest blank h =
     let e : ◌≡◌ {A = Option (Token × List ℕ)} None (Some (t, rest)) = sym (next-blank bytes blank) ∙ next-begins bytes t rest h in cc
 

@@ -1,9 +1,14 @@
 //! Flat code: functions of instructions over slots, with jumps by number. It is the middle of a compilation.
 #![tactic(auto)]
 
+mod step_laws;
+mod value_laws;
+
 use og_names::Word;
 use og_types::TypeId;
 use sqlite_items::{Boxed, Items};
+pub use step_laws::{code_in_64_bits, ended_code_stays, steps_split};
+pub use value_laws::{cells_hold_values, code_values_of_parts};
 
 /// Slot k below the number of regions holds the number of region k's active leaf; the next five slots are `stopped`,
 /// `f_kind`, `f_file`, `f_line` and `f_column`; the other slots of the interface are found by their names. `events` has

@@ -53,9 +53,10 @@ same_piece p q shape text = λ i. record { shape = shape i; text = text i }
 -- one piece at most stands in front
 same_front : (p q : Piece) (bytes rest more : List ℕ) → Stands p.shape p.text bytes rest → IsWithin p.shape p.text → Stands q.shape q.text bytes more → IsWithin q.shape q.text → (p ≡ q) × (rest ≡ more)
 same_front p q bytes rest more first within second also =
-    let same = same_shape p.shape q.shape (length p.text) (length q.text) (sym (front_of-stands p.shape p.text bytes rest first within) ∙ front_of-stands q.shape q.text bytes more second also) in
-    ( same_piece p q same.0 (piece_text p.text bytes rest first.joined ∙ ap (λ n. take n bytes) same.1 ∙ sym (piece_text q.text bytes more second.joined))
-    , piece_rest p.text bytes rest first.joined ∙ ap (λ n. drop n bytes) same.1 ∙ sym (piece_rest q.text bytes more second.joined))
+    let same = same_shape p.shape q.shape (length p.text) (length q.text) (sym (front_of-stands p.shape p.text bytes rest first within) ∙ front_of-stands q.shape q.text bytes more second also) in (
+      same_piece p q same.0 (piece_text p.text bytes rest first.joined ∙ ap (λ n. take n bytes) same.1 ∙ sym (piece_text q.text bytes more second.joined)),
+      piece_rest p.text bytes rest first.joined ∙ ap (λ n. drop n bytes) same.1 ∙ sym (piece_rest q.text bytes more second.joined),
+    )
 
 -- pieces as far as there are any are determined
 pub same_cuts : (ps qs : List Piece) (bytes rest more : List ℕ) → Cuts ps bytes rest → NoFront rest → Cuts qs bytes more → NoFront more → (ps ≡ qs) × (rest ≡ more)
@@ -71,9 +72,10 @@ same_cuts (p ∷ ps) (q ∷ qs) bytes rest more first stops second ends =
 
 pub lexes-once : (file : ℕ) (bytes : List ℕ) (tokens others : List Spanned) (comments more : List Comment) → Lexes file bytes tokens comments → Lexes file bytes others more → (tokens ≡ others) × (comments ≡ more)
 lexes-once file bytes tokens others comments more first second =
-    let same = same_cuts first.pieces second.pieces bytes [] [] first.cuts no_front-nil second.cuts no_front-nil in
-    ( first.tokens_are ∙ ap (tokens_from file bytes 0) same.0 ∙ sym second.tokens_are
-    , first.comments_are ∙ ap (comments_from file bytes 0) same.0 ∙ sym second.comments_are)
+    let same = same_cuts first.pieces second.pieces bytes [] [] first.cuts no_front-nil second.cuts no_front-nil in (
+      first.tokens_are ∙ ap (tokens_from file bytes 0) same.0 ∙ sym second.tokens_are,
+      first.comments_are ∙ ap (comments_from file bytes 0) same.0 ∙ sym second.comments_are,
+    )
 
 same_rule : (r s : Rule) (bytes : List ℕ) → front_of bytes ≡ Err r → front_of bytes ≡ Err s → r ≡ s
 same_rule r s bytes first second = cc

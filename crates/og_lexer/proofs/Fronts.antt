@@ -286,7 +286,7 @@ front_of-long_word (b ∷ bs) rest word stop over =
     let n = 1 + prefix_len is_word (bs ++ rest) in
     front_of-class class.Letter b (bs ++ rest) word.0
     ∙ cond-true (nat_lt 64 n) (Err L3) (found (word_shape (keyword_in KEYWORDS (map to_ascii_uppercase (take n whole)))) n)
-        (lt-ltb 64 n (let e = prefix_len-at is_word bs rest word.1 stop in omega arith))
+    (lt-ltb 64 n (let e = prefix_len-at is_word bs rest word.1 stop in omega arith))
 
 digit_class : (k : Class) → is_digit_class k ≡ true → k ≡ class.Digit
 digit_class class.Digit is = refl

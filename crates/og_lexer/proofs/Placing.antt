@@ -100,27 +100,29 @@ drop-text bytes text more at joined = sym (drop-drop (length text) at bytes) ∙
 
 token_put : (file : ℕ) (bytes text more : List ℕ) (at : ℕ) (t : Option Token) (ts : List Spanned) → at ≤ length bytes → drop at bytes ≡ text ++ more → IfSome t (IsToken text) → AreInPlace file bytes (at + length text) ts → AreInPlace file bytes at (spanned t (place_at file bytes at) at (at + length text) ++ ts)
 token_put file bytes text more at None ts within joined is rest = in_place-from file bytes at (at + length text) ts (omega arith) rest
-token_put file bytes text more at (Some t) ts within joined is rest =
-    ( omega arith
-    , record {
-        ordered = omega arith;
-        inside = slice-inside bytes text more at within joined;
-        placed = refl;
-        written = subst (IsWritten t) (sym (slice-text bytes text more at joined)) is.written;
-      }
-    , rest)
+token_put file bytes text more at (Some t) ts within joined is rest = (
+  omega arith,
+  record {
+    ordered = omega arith;
+    inside = slice-inside bytes text more at within joined;
+    placed = refl;
+    written = subst (IsWritten t) (sym (slice-text bytes text more at joined)) is.written;
+  },
+  rest,
+)
 
 -- the tokens of the pieces stand in their places
 pub tokens_from-place : (file : ℕ) (bytes : List ℕ) (ps : List Piece) (at : ℕ) (rest : List ℕ) → at ≤ length bytes → drop at bytes ≡ rest → Cuts ps rest [] → AreInPlace file bytes at (tokens_from file bytes at ps)
-tokens_from-place file bytes [] at rest within left cuts =
-    ( omega arith
-    , record {
-        ordered = omega arith;
-        inside = within;
-        placed = refl;
-        written = ap (λ n. take n (drop at bytes)) (let none : at - at ≡ 0 = omega arith in none);
-      }
-    , tt)
+tokens_from-place file bytes [] at rest within left cuts = (
+  omega arith,
+  record {
+    ordered = omega arith;
+    inside = within;
+    placed = refl;
+    written = ap (λ n. take n (drop at bytes)) (let none : at - at ≡ 0 = omega arith in none);
+  },
+  tt,
+)
 tokens_from-place file bytes (p ∷ ps) at rest within left cuts =
     let joined = left ∙ cuts.1.joined in
     token_put file bytes p.text cuts.0 at (token_of p.shape p.text) (tokens_from file bytes (at + length p.text) ps) within joined (token_of-is p.shape p.text cuts.1.is_of cuts.2)
@@ -130,15 +132,16 @@ comment_put : (file : ℕ) (bytes text more : List ℕ) (at : ℕ) (c cs : List 
 comment_put file bytes text more at c cs within joined (inl none) rest =
     subst (λ (l : List Comment). AreCommentsInPlace file bytes at (l ++ cs)) (sym none) (comments_in_place-from file bytes at (at + length text) cs (omega arith) rest)
 comment_put file bytes text more at c cs within joined (inr one) rest =
-    subst (λ (l : List Comment). AreCommentsInPlace file bytes at (l ++ cs)) (sym one.1)
-    ( omega arith
-    , record {
+    subst (λ (l : List Comment). AreCommentsInPlace file bytes at (l ++ cs)) (sym one.1) (
+      omega arith,
+      record {
         ordered = omega arith;
         inside = slice-inside bytes text more at within joined;
         placed = refl;
         written = subst IsComment (sym (slice-text bytes text more at joined)) one.0;
-      }
-    , rest)
+      },
+      rest,
+    )
 
 -- the comments among the pieces stand in their places
 pub comments_from-place : (file : ℕ) (bytes : List ℕ) (ps : List Piece) (at : ℕ) (rest : List ℕ) → at ≤ length bytes → drop at bytes ≡ rest → Cuts ps rest [] → AreCommentsInPlace file bytes at (comments_from file bytes at ps)
@@ -183,15 +186,16 @@ cuts-texts (p ∷ ps) bytes rest cuts =
 pub cuts-front : (ps : List Piece) (bytes rest : List ℕ) → Cuts ps bytes rest → Cuts ps (texts ps) []
 unfolding texts
 cuts-front [] bytes rest cuts = refl
-cuts-front (p ∷ ps) bytes rest cuts =
-    ( texts ps
-    , record {
-        joined = refl;
-        is_of = cuts.1.is_of;
-        follows = not_first-front (goes_on p.shape) (texts ps) rest (subst (NotFirst (goes_on p.shape)) (cuts-texts ps cuts.0 rest cuts.3) cuts.1.follows);
-      }
-    , cuts.2
-    , cuts-front ps cuts.0 rest cuts.3)
+cuts-front (p ∷ ps) bytes rest cuts = (
+  texts ps,
+  record {
+    joined = refl;
+    is_of = cuts.1.is_of;
+    follows = not_first-front (goes_on p.shape) (texts ps) rest (subst (NotFirst (goes_on p.shape)) (cuts-texts ps cuts.0 rest cuts.3) cuts.1.follows);
+  },
+  cuts.2,
+  cuts-front ps cuts.0 rest cuts.3,
+)
 
 place_at-front : (file : ℕ) (xs ys : List ℕ) (at : ℕ) → at ≤ length xs → place_at file (xs ++ ys) at ≡ place_at file xs at
 place_at-front file xs ys at within = ap (place_after (first_place file)) (take-append-le at xs ys within)

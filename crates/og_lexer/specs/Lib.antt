@@ -4,3 +4,4 @@ pub mod Pieces
 pub mod Places
 pub mod Texts
 pub mod Front
+pub mod Examples

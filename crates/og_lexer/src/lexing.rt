@@ -1,10 +1,9 @@
-ghost use Rattle.std.specs.Prelude.{◌≡◌, ℕ, ◌+◌, ◌-◌, ◌^◌, ◌<◌, ◌≤◌, List, [], ◌∷◌, ◌++◌, length, take, OnOk, IfOk, IfErr};
+ghost use Rattle.std.specs.Prelude.{◌≡◌, ℕ, ◌+◌, ◌-◌, ◌^◌, ◌<◌, ◌≤◌, List, [], ◌∷◌, ◌++◌, length, OnOk, IfOk, IfErr};
 ghost use Rattle.og_lexer.specs.declared.Spanned.{Spanned};
 ghost use Rattle.og_lexer.specs.declared.Comment.{Comment};
-ghost use Rattle.og_base.specs.declared.Violation.{Violation};
 ghost use Rattle.og_lexer.specs.Places.{place_after};
 ghost use Rattle.og_lexer.specs.Pieces.{IsOf, IsWithin};
-ghost use Rattle.og_lexer.specs.Texts.{Lexes, FirstLexical, Refuses, AreInPlace, AreCommentsInPlace, EndsOnce, GainsPiece, token_of, tokens_from, comments_from};
+ghost use Rattle.og_lexer.specs.Texts.{Lexes, Refuses, AreInPlace, AreCommentsInPlace, EndsOnce, GainsPiece, token_of};
 
 use crate::front::{Front, Shape, front_of};
 use crate::scan::number_value;
@@ -63,23 +62,6 @@ pub fn lex_sdl(alloc: Global, file: u32, bytes: &[u8]) -> Result<Lexed, ModelErr
     Ok(lexed)
 }
 
-/// A text lexes in one way at most, or has one first violation of class L, and never both.
-pub fn one_reading()
-    ensures tokens { (file : ℕ) (bytes : List ℕ) (tokens others : List Spanned) (comments more : List Comment) →
-        Lexes file bytes tokens comments → Lexes file bytes others more → (tokens ≡ others) × (comments ≡ more) }
-    ensures violation { (file : ℕ) (bytes : List ℕ) (v w : Violation) →
-        FirstLexical file bytes v → FirstLexical file bytes w → v ≡ w }
-    ensures apart { (file : ℕ) (bytes : List ℕ) (tokens : List Spanned) (comments : List Comment) (v : Violation) →
-        Lexes file bytes tokens comments → FirstLexical file bytes v → ⊥ }
-{}
-
-/// The bytes before the first violation of class L lex, and to the tokens and comments that stand before it.
-pub fn front_lexes()
-    ensures { (file : ℕ) (bytes : List ℕ) (v : Violation) (first : FirstLexical file bytes v) →
-        let at = length bytes - length first.rest in
-        Lexes file (take at bytes) (tokens_from file bytes 0 first.before) (comments_from file bytes 0 first.before) }
-{}
-
 /// Keeps a piece that stands at the byte `at`: a token or a comment. White space is dropped.
 fn keep(
     alloc: Global,
@@ -118,9 +100,9 @@ fn token_of(alloc: Global, shape: Shape, text: &[u8]) -> Result<Option<Token>, M
     ensures err { IfErr result (λ e. e ≡ ModelError.NoMemory) }
 {
     let token = match shape {
-        Shape::Space | Shape::BlockComment | Shape::DashComment | Shape::LineComment => return Ok(
-            None,
-        ),
+        Shape::Space | Shape::BlockComment | Shape::DashComment | Shape::LineComment => {
+            return Ok(None);
+        }
         Shape::Name => Token::Name(word(alloc, text)?),
         Shape::Reserved(keyword) => Token::Keyword(keyword),
         Shape::Digits => Token::Number(number_value(text)),
@@ -170,4 +152,124 @@ fn place_after(place: Place, text: &[u8]) -> Place
         }
     }
     Place { file, line, column }
+}
+
+#[cfg(test)]
+mod tests {
+    use super::*;
+    use std::alloc::AllocError;
+    use std::test::Fail;
+
+    /// The tokens with their places and bytes, and then the bytes of the comments; or the violation.
+    fn outcome(alloc: Global, lexed: &Result<Lexed, ModelError>) -> Result<String, AllocError> {
+        match lexed {
+            Ok(lexed) => listing(alloc, lexed),
+            Err(ModelError::Broken(Violation { rule, place })) => {
+                let Place { line, column, .. } = *place;
+                format!(in alloc; "{rule:?} {line}:{column}")
+            }
+            Err(ModelError::NoMemory) => String::from_str(alloc, "no memory"),
+        }
+    }
+
+    fn listing(alloc: Global, lexed: &Lexed) -> Result<String, AllocError> {
+        let mut text = String::new(alloc);
+        for spanned in lexed.tokens.as_slice() {
+            text.push_str(kind(alloc, &spanned.token)?.as_str())?;
+            let Place { line, column, .. } = spanned.place;
+            let Spanned { start, end, .. } = spanned;
+            text.push_str(format!(in alloc; " {line}:{column} {start}-{end}, ")?.as_str())?;
+        }
+        for comment in lexed.comments.as_slice() {
+            let Comment { start, end, .. } = *comment;
+            text.push_str(format!(in alloc; "comment {start}-{end}, ")?.as_str())?;
+        }
+        Ok(text)
+    }
+
+    fn kind(alloc: Global, token: &Token) -> Result<String, AllocError> {
+        match token {
+            Token::Name(word) => {
+                let len = word.bytes.len();
+                format!(in alloc; "name of {len}")
+            }
+            Token::Keyword(keyword) => format!(in alloc; "{keyword:?}"),
+            Token::Number(number) => format!(in alloc; "{number}"),
+            Token::Text(word) => {
+                let len = word.bytes.len();
+                format!(in alloc; "text of {len}")
+            }
+            Token::Mark(mark) => format!(in alloc; "{mark:?}"),
+            Token::End => String::from_str(alloc, "end"),
+        }
+    }
+
+    #[test]
+    fn each_form_and_each_rule_at_its_edge(rt: HostRuntime) -> Result<(), Fail> {
+        let cases: [(&[u8], &str); 21] = [
+            (b"", "end 1:1 0-0, "),
+            (
+                b"a\r\n b_1",
+                "name of 1 1:1 0-1, name of 3 2:2 4-7, end 2:5 7-7, ",
+            ),
+            (
+                b"nextState Idle;\n",
+                "Nextstate 1:1 0-9, name of 4 1:11 10-14, Semicolon 1:15 14-15, end 2:1 16-16, ",
+            ),
+            (b"12ab", "12 1:1 0-2, name of 2 1:3 2-4, end 1:5 4-4, "),
+            (b"'it''s'", "text of 5 1:1 0-7, end 1:8 7-7, "),
+            (
+                b"'\n' ''",
+                "text of 1 1:1 0-3, text of 0 2:3 4-6, end 2:5 6-6, ",
+            ),
+            (
+                b":=:<=<",
+                "Assign 1:1 0-2, Colon 1:3 2-3, LessOrEqual 1:4 3-5, Less 1:6 5-6, end 1:7 6-6, ",
+            ),
+            (
+                b">=>/=/",
+                "GreaterOrEqual 1:1 0-2, Greater 1:3 2-3, NotEqual 1:4 3-5, Solidus 1:6 5-6, end 1:7 6-6, ",
+            ),
+            (
+                b",(){}.!",
+                "Comma 1:1 0-1, LeftParenthesis 1:2 1-2, RightParenthesis 1:3 2-3, LeftBrace 1:4 3-4, RightBrace 1:5 4-5, FullStop 1:6 5-6, Exclamation 1:7 6-7, end 1:8 7-7, ",
+            ),
+            (
+                b"+-*=",
+                "Plus 1:1 0-1, Minus 1:2 1-2, Asterisk 1:3 2-3, Equal 1:4 3-4, end 1:5 4-4, ",
+            ),
+            (
+                b"--a\n--b--1--c",
+                "1 2:6 9-10, end 2:10 13-13, comment 0-3, comment 4-9, comment 10-13, ",
+            ),
+            (
+                b"/*/ \n **/-/**/",
+                "Minus 2:5 9-10, end 2:10 14-14, comment 0-9, comment 10-14, ",
+            ),
+            (
+                b"9223372036854775808 00",
+                "9223372036854775808 1:1 0-19, 0 1:21 20-22, end 1:23 22-22, ",
+            ),
+            (b"x 9223372036854775809", "L4 1:3"),
+            (b"340282366920938463463374607431768211456", "L4 1:1"),
+            (
+                b"aaaaaaaaaabbbbbbbbbbccccccccccddddddddddeeeeeeeeeeffffffffffgggg",
+                "name of 64 1:1 0-64, end 1:65 64-64, ",
+            ),
+            (
+                b"aaaaaaaaaabbbbbbbbbbccccccccccddddddddddeeeeeeeeeeffffffffffggggg",
+                "L3 1:1",
+            ),
+            (b"\n /* *", "L2 2:2"),
+            (b"'a''b", "L2 1:1"),
+            (b"a\n_b @", "L1 2:1"),
+            (b"a @ 'b", "L1 1:3"),
+        ];
+        for (text, expected) in cases {
+            assert!(rt; text.len() < 1000);
+            let lexed = lex_sdl(rt.alloc(), 0, text);
+            assert_eq!(rt; outcome(rt.alloc(), &lexed)?.as_str(), expected);
+        }
+        Ok(())
+    }
 }

@@ -3,10 +3,12 @@
 #![tactic(auto)]
 
 mod front;
+mod laws;
 mod lexing;
 mod scan;
 mod words;
 
+pub use laws::{examples, front_lexes, one_front, one_reading};
 pub use lexing::lex_sdl;
 use og_base::Place;
 use og_names::Word;

@@ -56,9 +56,9 @@ partitions_same : (within within' : Scope → Insides) (k : ℕ) → Agree k wit
 partitions_same within within' k h [] p = refl
 partitions_same within within' k h (q ∷ qs) p =
     ap (λ (x : Insides). partition_regions q x ++ regions_of_partitions within qs)
-        (h (out-Partition q).inner (inside_of _ _ k (below_partition q) (left_most (size-Partition q) (most size-Partition qs) k p)))
+    (h (out-Partition q).inner (inside_of _ _ k (below_partition q) (left_most (size-Partition q) (most size-Partition qs) k p)))
     ∙ ap (λ (rs : List Region). partition_regions q (within' (out-Partition q).inner) ++ rs)
-        (partitions_same within within' k h qs (right_most (size-Partition q) (most size-Partition qs) k p))
+    (partitions_same within within' k h qs (right_most (size-Partition q) (most size-Partition qs) k p))
 
 kind_same : (within within' : Scope → Insides) (k : ℕ) → Agree k within within' → (x : Kind) → inside_kind x ≤ k
     → kind_insides within x ≡ kind_insides within' x
@@ -71,16 +71,16 @@ state_same : (within within' : Scope → Insides) (k : ℕ) → Agree k within w
     → state_insides within d ≡ state_insides within' d
 state_same within within' k h d p =
     ap (insides_under d.name) (kind_same within within' k h (out-StateKind d.kind)
-        (inside_of _ _ k (below_kind d.kind) (inside_of _ _ k (below_state d) p)))
+    (inside_of _ _ k (below_kind d.kind) (inside_of _ _ k (below_state d) p)))
 
 states_same : (within within' : Scope → Insides) (k : ℕ) → Agree k within within' → (ds : List StateDef) → most size-StateDef ds ≤ k
     → states_insides within ds ≡ states_insides within' ds
 states_same within within' k h [] p = refl
 states_same within within' k h (d ∷ ds) p =
     ap (λ (x : Insides). followed_by x (states_insides within ds))
-        (state_same within within' k h d (left_most (size-StateDef d) (most size-StateDef ds) k p))
+    (state_same within within' k h d (left_most (size-StateDef d) (most size-StateDef ds) k p))
     ∙ ap (followed_by (state_insides within' d))
-        (states_same within within' k h ds (right_most (size-StateDef d) (most size-StateDef ds) k p))
+    (states_same within within' k h ds (right_most (size-StateDef d) (most size-StateDef ds) k p))
 
 -- ---- any depth that covers the tree
 
@@ -95,8 +95,8 @@ within_same zero d' m p q = absurd (no_depth m p)
 within_same (suc d) zero m p q = absurd (no_depth m q)
 within_same (suc d) (suc d') m p q =
     states_same (insides_within d) (insides_within d') (most size-StateDef (out-Scope m).states)
-        (λ x r. within_same d d' x (le_trans r (inside_scope m d p)) (le_trans r (inside_scope m d' q)))
-        (out-Scope m).states (le_refl _)
+    (λ x r. within_same d d' x (le_trans r (inside_scope m d p)) (le_trans r (inside_scope m d' q)))
+    (out-Scope m).states (le_refl _)
 
 one_deeper : (n : ℕ) → n ≤ suc n
 one_deeper n = omega arith
@@ -106,5 +106,5 @@ pub insides_is : (m : Scope) → insides_of m ≡ states_insides insides_of (out
 insides_is m =
     within_same (size-Scope m) (suc (size-Scope m)) m (le_refl _) (one_deeper (size-Scope m))
     ∙ states_same (insides_within (size-Scope m)) insides_of (size-Scope m)
-        (λ x r. within_same (size-Scope m) (size-Scope x) x r (le_refl _))
-        (out-Scope m).states (inside_scope m (size-Scope m) (one_deeper (size-Scope m)))
+    (λ x r. within_same (size-Scope m) (size-Scope x) x r (le_refl _))
+    (out-Scope m).states (inside_scope m (size-Scope m) (one_deeper (size-Scope m)))

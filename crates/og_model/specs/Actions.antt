@@ -110,9 +110,12 @@ abbrev pub tail_within : ℕ → NameId → Block → Option Remainder
 tail_within zero l block = None
 tail_within (suc depth) l block = tail_of_steps (tail_within depth l) l (out-Block block).steps (out-Block block).end
 
+-- from the label in a block
+unfoldable pub tail_in : NameId → Block → Option Remainder
+tail_in l block = tail_within (size-Block block) l block
+
 abbrev pub tail_of_body : NameId → Body → Option Remainder
-tail_of_body l body =
-    cond (is_name l body.label) (Some (piece_of body.block ∷ [])) (tail_within (size-Block body.block) l body.block)
+tail_of_body l body = cond (is_name l body.label) (Some (piece_of body.block ∷ [])) (tail_in l body.block)
 
 -- from the label to the end of its block, then what follows each decision around it, outward
 abbrev pub tail : List Body → NameId → Option Remainder

@@ -256,11 +256,11 @@ eval_within zero b s e = Ok no_value
 eval_within (suc depth) b s e = eval_node (eval_within depth b s) b s (out-Node e.node)
 
 -- the value of an expression, or its first fault
-abbrev pub eval : Frame → Store → Expr → Result Value FaultKind
+unfoldable pub eval : Frame → Store → Expr → Result Value FaultKind
 eval b s e = eval_within (size-Expr e) b s e
 
 -- where a target leads, or its first fault
-abbrev pub walk : Frame → Store → Target → Result Walked FaultKind
+unfoldable pub walk : Frame → Store → Target → Result Walked FaultKind
 walk b s target = walk_by (eval_within (size-Target target) b s) b s target
 
 -- ---- changing a variable

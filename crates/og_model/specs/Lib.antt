@@ -8,6 +8,7 @@ pub mod Choice
 pub mod Moving
 pub mod Settling
 pub mod Run
+pub mod Laws
 pub mod Regions
 pub mod Size
 pub mod Forms

@@ -79,5 +79,5 @@ follow M n s (Fault kind place) xs = []
 follow M n s Out xs = []
 
 -- what the model shows for the start and for each stimulus, with n units for each of them
-abbrev pub sdl : Model → List Stimulus → ℕ → List Shown
+unfoldable pub sdl : Model → List Stimulus → ℕ → List Shown
 sdl M list n = let r = start M n (first_state M) in shown M r ∷ follow M n r.state r.outcome list

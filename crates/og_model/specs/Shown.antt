@@ -1,8 +1,8 @@
 -- What a run shows: for the start and for each stimulus the events in their order, and how it ended. The meaning of a
 -- model and the meaning of a program of the C subset both give a list of these, so that the two can be equal. A transition
 -- of Z.101 runs to its end before the next signal is taken: so there is one entry for each stimulus.
-use Rattle.std.specs.Prelude.{◌≡◌, ℕ, ℤ, List, [], ◌∷◌, ◌++◌, Bool, true, false}
-use Rattle.std.specs.List.{list_any}
+use Rattle.std.specs.Prelude.{◌≡◌, ℕ, ℤ, List, [], ◌∷◌, ◌++◌, Bool, true, false, ⊤}
+use Rattle.std.specs.List.{list_any, AllByRecursion}
 use Rattle.og_base.specs.declared.Place.{Place}
 use Rattle.og_names.specs.declared.NameId.{NameId}
 use Rattle.og_types.specs.declared.Value.{Value}
@@ -72,3 +72,33 @@ Begins [] later = Unit {0}
 Begins (entry ∷ earlier) [] = ⊥
 Begins (entry ∷ earlier) (other ∷ later) =
     BeginsEntry entry.end entry.events entry other × Begins earlier later
+
+-- P where more may follow, and Q where nothing does
+abbrev pub IfMoreFollows : End → Type 0 → Type 0 → Type 0
+IfMoreFollows (Rest paths variables timers) P Q = P
+IfMoreFollows (Stopped variables) P Q = P
+IfMoreFollows (Fault kind place variables timers) P Q = Q
+IfMoreFollows Past P Q = Q
+IfMoreFollows (Stuck rule) P Q = Q
+
+-- there is an entry for the start and then one for each stimulus, and nothing after Fault, Past or Stuck
+abbrev pub AnswersEach : List Stimulus → List Shown → Type 0
+AnswersEach xs [] = ⊥
+AnswersEach [] (a ∷ later) = later ≡ []
+AnswersEach (x ∷ xs) (a ∷ later) = IfMoreFollows a.end (AnswersEach xs later) (later ≡ [])
+
+-- no event, and Stopped with these variables
+abbrev pub ShowsNothing : List Value → Shown → Type 0
+ShowsNothing variables a = a ≡ record { events = []; end = Stopped variables }
+
+abbrev pub AfterStopped : End → List Shown → Type 0
+AfterStopped (Stopped variables) later = AllByRecursion (ShowsNothing variables) later
+AfterStopped (Rest paths variables timers) later = ⊤
+AfterStopped (Fault kind place variables timers) later = ⊤
+AfterStopped Past later = ⊤
+AfterStopped (Stuck rule) later = ⊤
+
+-- after an entry that has stopped, nothing is shown
+abbrev pub StaysStopped : List Shown → Type 0
+StaysStopped [] = ⊤
+StaysStopped (a ∷ later) = AfterStopped a.end later × StaysStopped later

@@ -12,8 +12,7 @@ ghost use Rattle.og_model.specs.Sample.{double_underscore, first_value_outside, 
 /// A scope has the leaves and regions of its states, one after the other.
 pub fn scopes_have_what_their_states_have()
     ensures { (m : Scope) → insides_of m ≡ states_insides insides_of (out-Scope m).states }
-{
-}
+{}
 
 /// Two basic states are two leaves of one region.
 #[tactic(auto, unfolding(crate::proofs::Computing::trees))]

@@ -1,3 +1,5 @@
 pub mod Grammar
 pub mod Rules
 pub mod Files
+pub mod Statuses
+pub mod Reading

@@ -1,4 +1,15 @@
 //! The commands of `og`.
 #![tactic(auto)]
 
+mod build;
+mod compile;
+mod parse;
+mod report;
+mod rules;
+mod run;
+mod status;
 mod syntax;
+mod words;
+
+pub use run::run_tool;
+pub use status::Status;

@@ -1,8 +1,11 @@
 //! Types of data after ASN.1 (X.680), and the values of these types.
 #![tactic(auto)]
 
+ghost use Rattle.std.specs.Prelude.{◌≡◌, []};
+
 use og_names::NameId;
 use sqlite_items::{Boxed, Items};
+use std::alloc::Global;
 use std::marker::Model;
 
 /// The number of a type in its table, counted from 0.
@@ -73,4 +76,15 @@ impl Model for TypeTable {
     ghost Value = { List Sort };
 
     ghost view = { λ t. t.sorts };
+}
+
+impl TypeTable {
+    /// A table without types.
+    pub fn new(alloc: Global) -> TypeTable
+        ensures { result ≡ [] }
+    {
+        TypeTable {
+            sorts: Items::new(alloc),
+        }
+    }
 }

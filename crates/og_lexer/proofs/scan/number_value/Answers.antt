@@ -13,8 +13,8 @@ loop-digit-preserved c =
     record {
       fits = omega arith;
       found = number_from-capped (2 ^ 64 - 1) next whole (drop (c.loop-digit.digit-index + 1) digits) same
-        ∙ ap (λ n. min n (2 ^ 64 - 1)) (sym (number_from-drop c.loop-digit.value c.loop-digit.digit-index digits c.loop-digit-test.true))
-        ∙ c.loop-digit.invariant.found;
+          ∙ ap (λ n. min n (2 ^ 64 - 1)) (sym (number_from-drop c.loop-digit.value c.loop-digit.digit-index digits c.loop-digit-test.true))
+          ∙ c.loop-digit.invariant.found;
     }
 
 pub returns : goal.returns

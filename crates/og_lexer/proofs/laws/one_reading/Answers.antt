@@ -1,5 +1,5 @@
 use Rattle.og_lexer.proofs.Cutting.{lexes-once, violation-once, lexes-apart}
-use Rattle.og_lexer.proofs.lexing.one_reading.Goals as goal
+use Rattle.og_lexer.proofs.laws.one_reading.Goals as goal
 
 pub returns-clause-tokens : goal.returns-clause-tokens
 returns-clause-tokens c = lexes-once
