@@ -1,5 +1,5 @@
 -- Lists that are gathered item by item, and leaves and regions whose paths grow by one name.
-use Rattle.std.proofs.Common.{◌≡◌, ℕ, zero, suc, ◌+◌, ◌<◌, ◌≤◌, List, [], ◌∷◌, ◌++◌, map, take, length, get_or, slice_get, Option, Some, None, refl, sym, ap, ◌∙◌, arith}
+use Rattle.std.proofs.Common.{◌≡◌, ℕ, zero, suc, ◌+◌, ◌<◌, ◌≤◌, List, [], ◌∷◌, ◌++◌, map, take, length, get_or, slice_get, Option, Some, refl, sym, ap, ◌∙◌, arith}
 use Rattle.std.proofs.lemmas.List.{map-append, append_assoc, append-nil}
 use Rattle.std.proofs.lemmas.Option.{slice_get_read}
 use Rattle.std.proofs.Math.Seq.{take-length}
@@ -65,20 +65,23 @@ gathered_next one all g xs i x old before after inside is so_far more =
 -- the leaves of states, at a path
 pub gathers_leaves : (path : List NameId) → Gathers (λ d. leaves_at path (state_insides insides_of d).leaves) (λ ds. leaves_at path (states_insides insides_of ds).leaves)
 gathers_leaves path = record {
-    nothing = refl;
-    first = λ d ds. map-append (leaf_at path) (state_insides insides_of d).leaves (states_insides insides_of ds).leaves }
+  nothing = refl;
+  first = λ d ds. map-append (leaf_at path) (state_insides insides_of d).leaves (states_insides insides_of ds).leaves;
+}
 
 -- the regions of states, at a path
 pub gathers_regions : (path : List NameId) → Gathers (λ d. regions_at path (state_insides insides_of d).regions) (λ ds. regions_at path (states_insides insides_of ds).regions)
 gathers_regions path = record {
-    nothing = refl;
-    first = λ d ds. map-append (region_at path) (state_insides insides_of d).regions (states_insides insides_of ds).regions }
+  nothing = refl;
+  first = λ d ds. map-append (region_at path) (state_insides insides_of d).regions (states_insides insides_of ds).regions;
+}
 
 -- the regions of partitions, at a path
 pub gathers_partitions : (path : List NameId) → Gathers (λ p. regions_at path (partition_regions p (insides_of (out-Partition p).inner))) (λ ps. regions_at path (regions_of_partitions insides_of ps))
 gathers_partitions path = record {
-    nothing = refl;
-    first = λ p ps. map-append (region_at path) (partition_regions p (insides_of (out-Partition p).inner)) (regions_of_partitions insides_of ps) }
+  nothing = refl;
+  first = λ p ps. map-append (region_at path) (partition_regions p (insides_of (out-Partition p).inner)) (regions_of_partitions insides_of ps);
+}
 
 -- after the last turn
 pub gathered_end : {X Y : Type 0} (all : List X → List Y) (xs whole : List X) (i : ℕ) (old after : List Y)
@@ -165,7 +168,7 @@ region_followed path own longer p x leaves old one after its_path further its_le
     ∙ ap (λ (q : List NameId). old ++ record { path = q; leaves = leaves } ∷ regions_at longer x.regions) its_path
     ∙ ap (λ (ls : List Leaf). old ++ record { path = path ++ (out-Partition p).name ∷ []; leaves = ls } ∷ regions_at longer x.regions) its_leaves
     ∙ ap (λ (rs : List Region). old ++ record { path = path ++ (out-Partition p).name ∷ []; leaves = x.leaves } ∷ rs)
-        (ap (λ q. regions_at q x.regions) further ∙ sym (regions_one_further path (out-Partition p).name x.regions))
+    (ap (λ q. regions_at q x.regions) further ∙ sym (regions_one_further path (out-Partition p).name x.regions))
 
 -- one turn of the loop over the partitions of an aggregation
 pub partition_next : (longer path : List NameId) (ps : List Partition) (i : ℕ) (p : Partition) (old before after : List Region)
@@ -174,8 +177,8 @@ pub partition_next : (longer path : List NameId) (ps : List Partition) (i : ℕ)
     → after ≡ old ++ regions_at longer (regions_of_partitions insides_of (take (i + 1) ps))
 partition_next longer path ps i p old before after inside is so_far same more =
     gathered_next (λ q. regions_at longer (partition_regions q (insides_of (out-Partition q).inner))) (λ qs. regions_at longer (regions_of_partitions insides_of qs))
-        (gathers_partitions longer) ps i p old before after inside is so_far
-        (more ∙ ap (λ q. before ++ regions_at q (partition_regions p (insides_of (out-Partition p).inner))) same)
+    (gathers_partitions longer) ps i p old before after inside is so_far
+    (more ∙ ap (λ q. before ++ regions_at q (partition_regions p (insides_of (out-Partition p).inner))) same)
 
 -- the process, and then the partitions
 pub process_followed : (m : Scope) (path : List NameId) (leaves : List Leaf) (none one rest after : List Region)

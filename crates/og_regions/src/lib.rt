@@ -36,3 +36,6 @@ pub fn number(alloc: Global, model: &Model) -> Result<Regions, NoMemory>
     all.append(list)?;
     Ok(Regions { list: all })
 }
+
+#[cfg(test)]
+mod tests;
