@@ -2,6 +2,7 @@
 //! says what the model shows for the start and for each stimulus.
 #![tactic(auto, unfolding(og_model::proofs::Computing::trees))]
 
+pub mod accepted;
 pub mod data;
 pub mod nested;
 pub mod procedures;
