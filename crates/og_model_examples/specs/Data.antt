@@ -1,6 +1,6 @@
 -- Data of structured types (Z.104, with the types of X.680): sequences of items at their greatest length, an alternative
 -- that a choice does not have, an index outside, and the values of an input.
-use Rattle.std.specs.Prelude.{ℕ, List, [], ◌∷◌, true}
+use Rattle.std.specs.Prelude.{ℕ, List, [], ◌∷◌, true, None}
 use Rattle.og_types.specs.declared.Value.{Value}
 use Rattle.og_types.specs.declared.Value as Values
 use Rattle.og_model.specs.declared.Model.{Model}
@@ -18,7 +18,7 @@ use Rattle.og_model.specs.declared.Select as Selects
 use Rattle.og_model.specs.declared.Target.{Target}
 use Rattle.og_model.specs.declared.FaultKind.TheVariants as Faults
 use Rattle.og_model.specs.Shown.{Shown, Stimulus}
-use Rattle.og_model_examples.specs.Words.{at, name_idle, name_l, name_c, name_k, name_x, type_small, type_byte, type_kind, type_list, type_pick, whole, wholes, plain, expression, literal, constant, number, number_at, variable, step, set, basic, scope, from_first, body, next, input, handler, model_with, go_a, rests, faults, idle}
+use Rattle.og_model_examples.specs.Words.{at, name_idle, name_l, name_c, name_k, name_x, type_small, type_byte, type_kind, type_list, type_pick, whole, wholes, plain, expression, literal, constant, number, number_at, variable, step, set, basic, scope, from_first, body, next, input, handler, open_block, branch, send, sent, model_with, go_a, rests, faults, idle}
 
 -- a place inside a variable
 abbrev pub inside : ℕ → Select → Target
@@ -72,6 +72,28 @@ wide_input_trace = rests [] idle (with_x 0) [] ∷ faults [] Faults.Range (at 7 
 -- the value of the input is assigned before the index is outside
 abbrev pub wide_index_trace : List Shown
 wide_index_trace = rests [] idle (with_x 0) [] ∷ faults [] Faults.Index (at 7 18) (with_x 2) [] ∷ []
+
+-- ---- parts of variables
+
+-- DCL l List, c Pick, x Small;
+-- START; CALL append(l, 4); TASK l(0) := 7, x := length(l), c.one := l(0);
+--   DECISION present(c); (one): OUTPUT num(1); (two): OUTPUT num(2); ENDDECISION; NEXTSTATE idle;
+-- STATE idle; ENDSTATE;
+abbrev pub inward : Model
+inward = model_with [] (plain name_l type_list ∷ plain name_c type_pick ∷ plain name_x type_small ∷ []) []
+    (scope (basic name_idle [] ∷ [])
+    (body
+    (append (at 3 8) 4
+    ∷ step (at 3 32) (Actions.Assign (inside 0 (Selects.At (literal 0))) (literal 7))
+    ∷ set (at 3 43) 2 (expression ExprSorts.Int (Nodes.Length (variable 0)))
+    ∷ step (at 3 59) (Actions.Assign (inside 1 (Selects.Alternative 0)) (number_at (inside 0 (Selects.At (literal 0)))))
+    ∷ step (at 4 3) (Actions.Decide (expression (ExprSorts.Kind type_pick) (Nodes.Present (variable 1)))
+    (branch 0 0 (open_block (send 1 ∷ [])) ∷ branch 1 1 (open_block (send 2 ∷ [])) ∷ []) None) ∷ [])
+    (next 0) ∷ []))
+
+-- the first value of the choice has its first alternative
+abbrev pub inward_trace : List Shown
+inward_trace = rests (sent 1 ∷ []) idle (Values.SeqOf (wholes (7 ∷ [])) ∷ Values.Choice 0 (whole 7) ∷ whole 1 ∷ []) [] ∷ []
 
 -- ---- the values of an input
 

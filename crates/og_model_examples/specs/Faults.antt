@@ -1,7 +1,7 @@
 -- Expressions and faults (Z.101 sections 12.2 and 12.3; faults in place of the exceptions of Z.100 are this project's own):
 -- numbers are not limited to 32 bits, `and` evaluates both sides and `and then` does not, and a fault shows the variables
 -- as they were before it and all events so far.
-use Rattle.std.specs.Prelude.{List, [], ◌∷◌, negsuc}
+use Rattle.std.specs.Prelude.{ℕ, List, [], ◌∷◌, ℤ, pos, negsuc}
 use Rattle.og_types.specs.declared.Value.{Value}
 use Rattle.og_types.specs.declared.Value as Values
 use Rattle.og_model.specs.declared.Model.{Model}
@@ -11,9 +11,9 @@ use Rattle.og_model.specs.declared.Action as Actions
 use Rattle.og_model.specs.declared.EndKind.TheVariants as Ends
 use Rattle.og_model.specs.declared.BinaryOp.TheVariants as Ops
 use Rattle.og_model.specs.declared.FaultKind.TheVariants as Kinds
-use Rattle.og_model.specs.Shown.{Shown, Stimulus}
+use Rattle.og_model.specs.Shown.{Shown, Stimulus, Event}
 use Rattle.og_model.specs.Shown as Shows
-use Rattle.og_model_examples.specs.Words.{at, somewhere, name_idle, name_x, name_y, name_z, name_f, name_g, type_byte, type_big, type_truth, whole, wholes, no, declared, plain, literal, number, truth_at, variable, computed, decided, step, set, send, send_done, basic, from_first, body, next, scope, input, model_with, go, go_next, sent, rests, faults, idle}
+use Rattle.og_model_examples.specs.Words.{at, somewhere, name_idle, name_x, name_y, name_z, name_f, name_g, type_byte, type_big, type_truth, whole, wholes, no, declared, plain, integer, literal, number, truth_at, variable, computed, decided, step, set, send, send_done, basic, from_first, body, next, scope, input, model_with, go, go_next, sent, rests, faults, idle}
 
 -- DCL x Byte := 255;
 -- START; NEXTSTATE idle;
@@ -64,6 +64,31 @@ wide = model_with [] (declared name_x type_big least ∷ plain name_y type_big �
 
 abbrev pub wide_trace : List Shown
 wide_trace = rests (Shows.Output 5 (least ∷ []) ∷ Shows.Output 5 (whole 2147483648 ∷ []) ∷ []) idle (least ∷ whole 2147483648 ∷ []) [] ∷ []
+
+-- a negative number, one less than the negative of n
+abbrev pub below_zero : ℕ → ℤ
+below_zero n = negsuc n
+
+-- DCL x Big := -7;
+-- START; OUTPUT big(x / 2), big(x rem 2), big(x mod 2), big(7 / -2); NEXTSTATE idle;
+-- STATE idle; ENDSTATE;
+abbrev pub dividing : Model
+dividing = model_with [] (declared name_x type_big (Values.Int (below_zero 6)) ∷ []) []
+    (scope (basic name_idle [] ∷ [])
+    (body
+    (send_big (computed Ops.Div (number 0) (literal 2))
+    ∷ send_big (computed Ops.Rem (number 0) (literal 2))
+    ∷ send_big (computed Ops.Mod (number 0) (literal 2))
+    ∷ send_big (computed Ops.Div (literal 7) (integer (below_zero 1))) ∷ [])
+    (next 0) ∷ []))
+
+abbrev pub sent_big : ℤ → Event
+sent_big z = Shows.Output 5 (Values.Int z ∷ [])
+
+-- -3, -1, 1 and -3
+abbrev pub dividing_trace : List Shown
+dividing_trace = rests (sent_big (below_zero 2) ∷ sent_big (below_zero 0) ∷ sent_big (pos 1) ∷ sent_big (below_zero 2) ∷ []) idle
+    (Values.Int (below_zero 6) ∷ []) [] ∷ []
 
 -- ---- one side or both
 

@@ -3,7 +3,7 @@
 ghost use Rattle.std.specs.Prelude.{◌≡◌, [], ◌∷◌};
 ghost use Rattle.og_model.specs.WellFormed.{IsWellFormed};
 ghost use Rattle.og_model_examples.specs.TwoStates.{two_states, stopping, stopping_with_data, stopping_inside};
-ghost use Rattle.og_model_examples.specs.Faults.{counting, counting_twice, wide, both_sides};
+ghost use Rattle.og_model_examples.specs.Faults.{counting, counting_twice, wide, dividing, both_sides};
 ghost use Rattle.og_model_examples.specs.Procedures as Procedures;
 ghost use Rattle.og_model_examples.specs.Nested as Nested;
 ghost use Rattle.og_model_examples.specs.Aggregations as Aggregations;
@@ -19,8 +19,10 @@ pub fn basic_states_are_accepted()
     ensures counting { IsWellFormed counting }
     ensures counting_twice { IsWellFormed counting_twice }
     ensures wide { IsWellFormed wide }
+    ensures dividing { IsWellFormed dividing }
     ensures both_sides { IsWellFormed both_sides }
     ensures structured { IsWellFormed Data.structured }
+    ensures inward { IsWellFormed Data.inward }
     ensures receiving { IsWellFormed Data.receiving }
     ensures dropping { IsWellFormed Data.dropping }
 {}

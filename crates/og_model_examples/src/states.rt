@@ -4,7 +4,7 @@ ghost use Rattle.std.specs.Prelude.{◌≡◌, [], ◌∷◌};
 ghost use Rattle.og_model.specs.Run.{sdl};
 ghost use Rattle.og_model_examples.specs.Words.{go};
 ghost use Rattle.og_model_examples.specs.TwoStates.{two_states, started_trace, taken_trace, discarding_stimuli, discarding_trace, one_unit_trace, two_units_trace, stopping, stopping_stimuli, stopping_trace, stopping_with_data, stopping_with_data_stimuli, stopping_with_data_trace, stopping_inside, stopping_inside_trace};
-ghost use Rattle.og_model_examples.specs.Faults.{counting, counting_stimuli, counting_trace, counting_twice, counting_twice_trace, wide, wide_trace, both_sides, both_sides_stimuli, both_sides_trace};
+ghost use Rattle.og_model_examples.specs.Faults.{counting, counting_stimuli, counting_trace, counting_twice, counting_twice_trace, wide, wide_trace, dividing, dividing_trace, both_sides, both_sides_stimuli, both_sides_trace};
 
 /// A signal is taken, and one that the active state does not take is discarded.
 pub fn signals_are_taken_or_discarded()
@@ -36,6 +36,11 @@ pub fn faults_change_nothing()
 /// Numbers are not limited to 32 bits.
 pub fn numbers_are_wide()
     ensures { sdl wide [] 100 ≡ wide_trace }
+{}
+
+/// `/` truncates toward zero, `rem` has the sign of the left operand, and `mod` is not negative.
+pub fn division_truncates()
+    ensures { sdl dividing [] 100 ≡ dividing_trace }
 {}
 
 /// `and` evaluates both sides, `and then` the right one only where it is needed.
