@@ -6,8 +6,11 @@ use Rattle.og_model.specs.declared.Scope.{Scope, roll-Scope}
 use Rattle.og_model.specs.declared.StateKind.{StateKind}
 use Rattle.og_model.specs.declared.StateKind as Kinds
 use Rattle.og_model.specs.declared.EndKind.TheVariants as Ends
+use Rattle.og_model.specs.declared.Trigger.TheVariants as Triggers
+use Rattle.og_model.specs.declared.VarId.TheVariants as Vars
+use Rattle.og_model.specs.declared.FaultKind.TheVariants as Faults
 use Rattle.og_model.specs.Shown.{Shown, Stimulus}
-use Rattle.og_model_examples.specs.Words.{name_idle, name_u, name_i, name_j, name_w, name_k, name_l, name_fail, name_entry, name_exit, state, basic, scope, from_first, body, connection, next, input, connect, sending, send, model, model_with, go, go_next, go_done, sent, rests, idle}
+use Rattle.og_model_examples.specs.Words.{at, name_x, type_small, whole, plain, handler, go_a, faults, name_idle, name_u, name_i, name_j, name_w, name_k, name_l, name_fail, name_entry, name_exit, state, basic, scope, from_first, body, connection, next, input, connect, sending, send, model, model_with, go, go_next, go_done, sent, rests, idle}
 
 -- a composite state without `entry` and `exit`
 abbrev pub holding : Scope → StateKind
@@ -92,3 +95,55 @@ entering_trace = rests [] ((name_u ∷ name_i ∷ []) ∷ []) [] []
     ∷ rests (sent 2 ∷ []) ((name_u ∷ name_i ∷ []) ∷ []) [] []
     ∷ rests (sent 6 ∷ sent 7 ∷ []) ((name_u ∷ name_w ∷ name_k ∷ []) ∷ []) [] []
     ∷ rests (sent 5 ∷ sent 6 ∷ []) idle [] [] ∷ []
+
+-- STATE u; SUBSTRUCTURE OUT (fail);
+--   PROCEDURE entry; START; OUTPUT num(1); RETURN; ENDPROCEDURE;
+--   PROCEDURE exit; START; OUTPUT num(3); RETURN; ENDPROCEDURE;
+--   START; OUTPUT num(2); NEXTSTATE i;
+--   STATE i; INPUT next; NEXTSTATE -; INPUT go; RETURN fail; ENDSTATE;
+-- ENDSUBSTRUCTURE;
+-- START; NEXTSTATE u;
+-- STATE u; INPUT done; NEXTSTATE -; CONNECT fail; OUTPUT num(4); NEXTSTATE idle; ENDSTATE;
+-- STATE idle; ENDSTATE;
+abbrev pub dashing : Model
+dashing = model_with [] [] (sending name_entry 1 ∷ sending name_exit 3 ∷ [])
+    (from_first
+    (state name_u (Kinds.Composite (Some 0) (Some 1) (scope
+    (basic name_i (input 1 1 ∷ input 0 2 ∷ []) ∷ [])
+    (body (send 2 ∷ []) (next 0) ∷ body [] Ends.Dash ∷ body [] (Ends.Return (Some name_fail) None) ∷ [])))
+    (input 2 1 ∷ connect (Some name_fail) 2 ∷ [])
+    ∷ basic name_idle [] ∷ [])
+    (body [] Ends.Dash ∷ body (send 4 ∷ []) (next 1) ∷ []))
+
+-- the dash of `i` enters `i` alone, and that of `u` enters `u` anew
+abbrev pub dashing_stimuli : List Stimulus
+dashing_stimuli = go_next ∷ go_done ∷ go ∷ []
+
+abbrev pub dashing_trace : List Shown
+dashing_trace = rests (sent 1 ∷ sent 2 ∷ []) ((name_u ∷ name_i ∷ []) ∷ []) [] []
+    ∷ rests [] ((name_u ∷ name_i ∷ []) ∷ []) [] []
+    ∷ rests (sent 3 ∷ sent 1 ∷ sent 2 ∷ []) ((name_u ∷ name_i ∷ []) ∷ []) [] []
+    ∷ rests (sent 3 ∷ sent 4 ∷ []) idle [] [] ∷ []
+
+-- DCL x Small;
+-- STATE u; SUBSTRUCTURE
+--   PROCEDURE exit; START; OUTPUT num(3); RETURN; ENDPROCEDURE;
+--   START; NEXTSTATE i; STATE i; ENDSTATE;
+-- ENDSUBSTRUCTURE;
+-- START; NEXTSTATE u;
+-- STATE u; INPUT a(x); NEXTSTATE -; ENDSTATE;
+abbrev pub guarded : Model
+guarded = model_with [] (plain name_x type_small ∷ []) (sending name_exit 3 ∷ [])
+    (from_first
+    (state name_u (Kinds.Composite None (Some 0) (from_first (basic name_i [] ∷ []) []))
+    (handler (at 7 16) (Triggers.Input 3 (Vars.Process 0 ∷ [])) 1 ∷ []) ∷ [])
+    (body [] Ends.Dash ∷ []))
+
+-- 7 is assigned and then `u` is left; 12 is no Small, and `u` is not left
+abbrev pub guarded_stimuli : List Stimulus
+guarded_stimuli = go_a 7 ∷ go_a 12 ∷ []
+
+abbrev pub guarded_trace : List Shown
+guarded_trace = rests [] ((name_u ∷ name_i ∷ []) ∷ []) (whole 0 ∷ []) []
+    ∷ rests (sent 3 ∷ []) ((name_u ∷ name_i ∷ []) ∷ []) (whole 7 ∷ []) []
+    ∷ faults [] Faults.Range (at 7 16) (whole 7 ∷ []) [] ∷ []

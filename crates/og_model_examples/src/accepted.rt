@@ -42,6 +42,8 @@ pub fn nested_states_are_accepted()
     ensures joined { IsWellFormed Nested.joined }
     ensures completing { IsWellFormed Nested.completing }
     ensures entering { IsWellFormed Nested.entering }
+    ensures dashing { IsWellFormed Nested.dashing }
+    ensures guarded { IsWellFormed Nested.guarded }
     ensures aggregation { IsWellFormed Aggregations.completing }
     ensures failing_exit { IsWellFormed Aggregations.failing_exit }
     ensures outward { IsWellFormed Aggregations.outward }

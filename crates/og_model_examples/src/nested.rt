@@ -21,6 +21,16 @@ pub fn inner_states_come_first()
     ensures { sdl Nested.entering Nested.entering_stimuli 100 ≡ Nested.entering_trace }
 {}
 
+/// A dash of an inner state enters that state alone, a dash of the outer one enters it anew.
+pub fn dashes_enter_anew()
+    ensures { sdl Nested.dashing Nested.dashing_stimuli 100 ≡ Nested.dashing_trace }
+{}
+
+/// The values of an input are assigned, and tested, before anything is left.
+pub fn values_come_before_leaving()
+    ensures { sdl Nested.guarded Nested.guarded_stimuli 100 ≡ Nested.guarded_trace }
+{}
+
 /// An aggregation is completed when all its partitions are done, or left by an input of its own.
 pub fn aggregations_are_completed_or_left()
     ensures { sdl Aggregations.completing Aggregations.completing_stimuli 100 ≡ Aggregations.completing_trace }
