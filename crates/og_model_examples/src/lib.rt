@@ -6,5 +6,6 @@ pub mod accepted;
 pub mod data;
 pub mod nested;
 pub mod procedures;
+pub mod sizes;
 pub mod states;
 pub mod stimuli;
