@@ -117,8 +117,8 @@ value_is program globals e =
     let parts = depth_of_parts (out-CExpr e) in
     ap (λ d. value_within d program globals e) deep
     ∙ value_by_same (value_within parts program globals) (λ part. value_within (size-CExpr part) program globals part) parts
-      (λ part below. value_within_same parts (size-CExpr part) program globals part below (omega arith))
-      program globals (out-CExpr e) (omega arith)
+    (λ part below. value_within_same parts (size-CExpr part) program globals part below (omega arith))
+    program globals (out-CExpr e) (omega arith)
 
 -- ---- the same of being a number
 
@@ -172,5 +172,5 @@ is_number_is program e =
     let parts = depth_of_parts (out-CExpr e) in
     ap (λ d. number_within d program e) deep
     ∙ number_by_same (number_within parts program) (λ part. number_within (size-CExpr part) program part) parts
-      (λ part below. number_within_same parts (size-CExpr part) program part below (omega arith))
-      program (out-CExpr e) (omega arith)
+    (λ part below. number_within_same parts (size-CExpr part) program part below (omega arith))
+    program (out-CExpr e) (omega arith)

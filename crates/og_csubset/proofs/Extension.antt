@@ -62,7 +62,6 @@ id_at M L (id ∷ ids) zero h = h.0
 id_at M L (id ∷ ids) (suc k) h = id_at M L ids k h.1
 
 module _ (M L : Model) (ext : Extends M L) where
-
   signal_names_same : (k : ℕ) → signal_name L k ≡ signal_name M k
   signal_names_same k =
       ap (λ (signals : List Signal). name_if L (signal_id (slice_get signals k))) ext.signals ∙ name_at M L M.signals k ext.signal_names
@@ -110,8 +109,8 @@ module _ (M L : Model) (ext : Extends M L) where
       ap (λ names. start_function ∷ (names ++ map (timer_function L) (numbers_below (length L.timers))))
       (map_same (signal_function L) (signal_function M) signal_functions_same (incoming L) ∙ ap (map (signal_function M)) incoming_same)
       ∙ ap (λ names. start_function ∷ (map (signal_function M) (incoming M) ++ names))
-        (map_same (timer_function L) (timer_function M) timer_functions_same (numbers_below (length L.timers))
-        ∙ ap (λ (ids : List NameId). map (timer_function M) (numbers_below (length ids))) ext.timers)
+      (map_same (timer_function L) (timer_function M) timer_functions_same (numbers_below (length L.timers))
+      ∙ ap (λ (ids : List NameId). map (timer_function M) (numbers_below (length ids))) ext.timers)
 
   pub events_same : events_of L ≡ events_of M
   events_same =
@@ -122,7 +121,7 @@ module _ (M L : Model) (ext : Extends M L) where
   timer_fields_same =
       ap (λ (ids : List NameId). map (timer_field L) ids) ext.timers
       ∙ map_all (timer_field L) (timer_field M) M.timers
-        (all_map (SameName M L) _ (λ id same. ap (λ n. number_field (codes "t_" ++ n)) same) M.timers ext.timer_names)
+      (all_map (SameName M L) _ (λ id same. ap (λ n. number_field (codes "t_" ++ n)) same) M.timers ext.timer_names)
 
   -- the fields of the further variables
   abbrev pub further : List Field
@@ -133,8 +132,8 @@ module _ (M L : Model) (ext : Extends M L) where
       ap (λ (variables : List Variable). map (variable_field L) variables) ext.variables.1
       ∙ map-append (variable_field L) M.variables ext.variables.0
       ∙ ap (λ fields. fields ++ further)
-        (map_all (variable_field L) (variable_field M) M.variables
-        (all_map (λ (v : Variable). SameName M L v.name) _ (λ v same. ap (λ n. let field : Field = record { name = codes "v_" ++ n; shape = Typed v.sort } in field) same) M.variables ext.variable_names))
+      (map_all (variable_field L) (variable_field M) M.variables
+      (all_map (λ (v : Variable). SameName M L v.name) _ (λ v same. ap (λ n. let field : Field = record { name = codes "v_" ++ n; shape = Typed v.sort } in field) same) M.variables ext.variable_names))
 
   pub region_field_same : (r : Region) → AllByRecursion (SameName M L) r.path → region_field L r ≡ region_field M r
   region_field_same r same =
@@ -186,7 +185,6 @@ all_but F C V X T I h =
     list_all-append F (C ++ V ++ T) I ∙ both_hold second all_I
 
 module _ (P : CProgram) (M L : Model) (ext : Extends M L) where
-
   field_same : (field : Field) → has_field P L field ≡ has_field P M field
   field_same field =
       ap (λ (sorts : List Sort). passes (λ (kind : Kind). is_shaped P.structs sorts field.shape kind.type) (global_kind P field.name)) ext.types
@@ -196,9 +194,9 @@ module _ (P : CProgram) (M L : Model) (ext : Extends M L) where
       ap (λ n. cond (is_in n (event_names P)) (list_all (has_field P L) (event_globals L id)) (is_free P n && list_all (λ field. is_free P field.name || has_field P L field) (event_globals L id))) (event_names_same M L ext id)
       ∙ ap (λ fields. cond (is_in (event_name M id) (event_names P)) (list_all (has_field P L) fields) (is_free P (event_name M id) && list_all (λ field. is_free P field.name || has_field P L field) fields)) (event_globals_same M L ext id)
       ∙ ap (λ b. cond (is_in (event_name M id) (event_names P)) b (is_free P (event_name M id) && list_all (λ field. is_free P field.name || has_field P L field) (event_globals M id)))
-        (list_all_same (has_field P L) (has_field P M) field_same (event_globals M id))
+      (list_all_same (has_field P L) (has_field P M) field_same (event_globals M id))
       ∙ ap (λ b. cond (is_in (event_name M id) (event_names P)) (list_all (has_field P M) (event_globals M id)) (is_free P (event_name M id) && b))
-        (list_all_same _ _ (λ field. ap (λ b. is_free P field.name || b) (field_same field)) (event_globals M id))
+      (list_all_same _ _ (λ field. ap (λ b. is_free P field.name || b) (field_same field)) (event_globals M id))
 
   all_functions : list_all (λ n. is_in n (function_names P)) (functions_of L) ≡ list_all (λ n. is_in n (function_names P)) (functions_of M)
   all_functions = ap (list_all (λ n. is_in n (function_names P))) (functions_same M L ext)
@@ -221,14 +219,13 @@ module _ (P : CProgram) (M L : Model) (ext : Extends M L) where
       let T : List Field = timer_fields M in
       let I : List Field = flat_map (inputs_of M) (incoming M) in
       let whole : list_all F (C ++ (V ++ X) ++ T ++ I) ≡ true =
-          ap (list_all F) (sym
-          (ap (λ fields. fields ++ variable_fields L ++ timer_fields L ++ flat_map (inputs_of L) (incoming L)) (control_same M L ext)
-          ∙ ap (λ fields. C ++ fields ++ timer_fields L ++ flat_map (inputs_of L) (incoming L)) (variable_fields_same M L ext)
-          ∙ ap (λ fields. C ++ (V ++ X) ++ fields ++ flat_map (inputs_of L) (incoming L)) (timer_fields_same M L ext)
-          ∙ ap (λ fields. C ++ (V ++ X) ++ T ++ fields) (all_inputs_same M L ext)))
-          ∙ sym (list_all_same (has_field P L) F field_same (fields_of L)) ∙ h in
+      ap (list_all F) (sym
+      (ap (λ fields. fields ++ variable_fields L ++ timer_fields L ++ flat_map (inputs_of L) (incoming L)) (control_same M L ext)
+      ∙ ap (λ fields. C ++ fields ++ timer_fields L ++ flat_map (inputs_of L) (incoming L)) (variable_fields_same M L ext)
+      ∙ ap (λ fields. C ++ (V ++ X) ++ fields ++ flat_map (inputs_of L) (incoming L)) (timer_fields_same M L ext)
+      ∙ ap (λ fields. C ++ (V ++ X) ++ T ++ fields) (all_inputs_same M L ext)))
+      ∙ sym (list_all_same (has_field P L) F field_same (fields_of L)) ∙ h in
       all_but F C V X T I whole
-
 
   interface_keeps : breaks_K9 P L ≡ false → breaks_K9 P M ≡ false
   interface_keeps h =

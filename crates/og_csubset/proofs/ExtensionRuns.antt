@@ -50,7 +50,6 @@ all_of_front f (x ∷ xs) ys vs h =
     ∙ ap (λ list. Some (take (suc (length xs)) list)) (same_value _ vs more.gives)
 
 module _ (M L : Model) (ext : Extends M L) where
-
   abbrev n : ℕ
   n = length M.variables
 
@@ -105,7 +104,7 @@ module _ (M L : Model) (ext : Extends M L) where
   variables_keep : (g : Globals) (vs : List Value) → variables_in L g ≡ Some vs → variables_in M g ≡ Some (take n vs)
   variables_keep g vs h =
       let all : values_of M g (variable_fields M ++ further M L ext) ≡ Some vs =
-          ap (values_of M g) (sym (variable_fields_same M L ext)) ∙ sym (values_same g (variable_fields L)) ∙ h in
+      ap (values_of M g) (sym (variable_fields_same M L ext)) ∙ sym (values_same g (variable_fields L)) ∙ h in
       all_of_front (value_of_field M g) (variable_fields M) (further M L ext) vs all
       ∙ ap (λ k. Some (take k vs)) (length-map M.variables (variable_field M))
 
@@ -117,7 +116,7 @@ module _ (M L : Model) (ext : Extends M L) where
   paths_by g (r ∷ list) h =
       ap (λ (field : Field). number_named g field.name >>= λ z. active_path r z >>= λ here. paths_in L g list >>= λ others. Some (here ++ others)) (region_field_same M L ext r h.0)
       ∙ bind_on (number_named g ((region_field M r).name)) _ _ (λ z. bind_on (active_path r z) _ _ (λ here.
-        ap (λ o. o >>= λ others. Some (here ++ others)) (paths_by g list h.1)))
+      ap (λ o. o >>= λ others. Some (here ++ others)) (paths_by g list h.1)))
 
   paths_same : (g : Globals) → paths_in L g (regions L) ≡ paths_in M g (regions M)
   paths_same g = ap (paths_in L g) ext.regions_same ∙ paths_by g (regions M) ext.region_names
@@ -200,7 +199,6 @@ by_keeps M ending ending' more more' ends h events (Over g) free =
     ∙ ap (λ rest. let entry : Shown = record { events = events; end = end_over (length M.variables) (ending' g) } in entry ∷ rest) (on_keeps M (ending' g) (more g) (more' g) (h g) later)
 
 module _ (P : CProgram) (M L : Model) (ext : Extends M L) where
-
   ran_same : (m : ℕ) (s : Option Stimulus) (cells : List Cells) → exec (c_machine P M).step m ((c_machine P M).begin s cells) ≡ exec (c_machine P L).step m ((c_machine P L).begin s cells)
   ran_same m s cells =
       ap (exec (c_machine P M).step m) (sym (begun_same M L ext (function_names P) (global_names P) s cells))
@@ -215,7 +213,7 @@ module _ (P : CProgram) (M L : Model) (ext : Extends M L) where
       let ran = exec (c_machine P L).step m ((c_machine P L).begin s cells) in
       ap (shown_of (c_machine P M).ending (runs (c_machine P M) m stimuli)) (ran_same m s cells)
       ∙ by_keeps M (c_machine P M).ending (c_machine P L).ending (runs (c_machine P M) m stimuli) (runs (c_machine P L) m stimuli)
-        (end_keeps M L ext (global_names P)) (runs_keep m stimuli) ran.events ran.config free
+      (end_keeps M L ext (global_names P)) (runs_keep m stimuli) ran.events ran.config free
 
   -- the same list over the first variables, where the run is not stuck
   pub c_keeps : (stimuli : List Stimulus) (m : ℕ) → has_stuck (c P L stimuli m) ≡ false → c P M stimuli m ≡ shown_over M (c P L stimuli m)

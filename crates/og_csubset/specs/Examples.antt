@@ -128,9 +128,9 @@ hand_written = record {
   functions =
       function (codes "start") (assigns (codes "r") (literal (pos 0)) ∷ assigns (codes "k") (literal (pos 0)) ∷ [])
       ∷ function (codes "on_go")
-        (Assign (record { name = word (codes "w"); path = Member (word (codes "e")) ∷ At (read (codes "k")) ∷ [] }) (literal (pos 1))
-        ∷ assigns (codes "k") (operates op.Add (read (codes "k")) (literal (pos 1)))
-        ∷ Call (word (codes "o_done")) ∷ Call (word (codes "o_done")) ∷ [])
+      (Assign (record { name = word (codes "w"); path = Member (word (codes "e")) ∷ At (read (codes "k")) ∷ [] }) (literal (pos 1))
+      ∷ assigns (codes "k") (operates op.Add (read (codes "k")) (literal (pos 1)))
+      ∷ Call (word (codes "o_done")) ∷ Call (word (codes "o_done")) ∷ [])
       ∷ [];
 }
 
@@ -314,8 +314,8 @@ abbrev pub switching : ℕ → List CStmt
 switching n =
     assigns x (int n)
     ∷ Switch (read x)
-      (record { value = pos 1; label = word (codes "a") } ∷ record { value = pos 2; label = word (codes "b") } ∷ [])
-      (word (codes "d"))
+    (record { value = pos 1; label = word (codes "a") } ∷ record { value = pos 2; label = word (codes "b") } ∷ [])
+    (word (codes "d"))
     ∷ Label (word (codes "a")) ∷ assigns x (int 1) ∷ Return
     ∷ Label (word (codes "b")) ∷ assigns x (int 8) ∷ Return
     ∷ Label (word (codes "d")) ∷ assigns x (int 9) ∷ []

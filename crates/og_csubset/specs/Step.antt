@@ -151,16 +151,16 @@ call shows program globals frame callers name =
 abbrev pub act : {E : Type 0} → (List ℕ → List Cells → Option E) → CProgram → List CStmt → List Cells → Frame → List Frame → CStmt → Ran E
 act shows program body globals frame callers (Assign place e) =
     with_value (spot_of program globals place) (λ spot.
-        with_value (assigned program globals e (out-CExpr e)) (λ cells.
-            quiet (Running (put globals spot cells) (onward frame) callers)))
+    with_value (assigned program globals e (out-CExpr e)) (λ cells.
+    quiet (Running (put globals spot cells) (onward frame) callers)))
 act shows program body globals frame callers (IfGoto test label) =
     with_value (holds program globals test) (λ b.
-        if b then gone body globals frame callers label.bytes else quiet (Running globals (onward frame) callers))
+    if b then gone body globals frame callers label.bytes else quiet (Running globals (onward frame) callers))
 act shows program body globals frame callers (Goto label) = gone body globals frame callers label.bytes
 act shows program body globals frame callers (Label label) = quiet (Running globals (onward frame) callers)
 act shows program body globals frame callers (Switch e cases otherwise) =
     with_value (value_of program globals e) (λ z.
-        gone body globals frame callers (case_of z cases otherwise.bytes))
+    gone body globals frame callers (case_of z cases otherwise.bytes))
 act shows program body globals frame callers (Call name) = call shows program globals frame callers name.bytes
 act shows program body globals frame callers Return = returned globals callers
 
@@ -174,6 +174,6 @@ fetched shows program body globals frame callers (Some statement) =
 abbrev pub cstep : {E : Type 0} → (List ℕ → List Cells → Option E) → CProgram → Config → Ran E
 cstep shows program (Running globals frame callers) =
     with_value (or_else (slice_get program.functions frame.function) Value) (λ f.
-        fetched shows program f.body globals frame callers (slice_get f.body frame.place))
+    fetched shows program f.body globals frame callers (slice_get f.body frame.place))
 cstep shows program (Over globals) = quiet (Over globals)
 cstep shows program (Broken trouble) = quiet (Broken trouble)
