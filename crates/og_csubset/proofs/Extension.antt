@@ -1,13 +1,11 @@
 -- A program of a model that has more variables is one of the model without them.
-use Rattle.std.proofs.Common.{◌≡◌, ℕ, zero, suc, ◌+◌, ℤ, pos, negsuc, List, [], ◌∷◌, ◌++◌, Bool, true, false, cond, not, ◌&&◌, ◌||◌, Option, Some, None, map, length, take, slice_get, refl, sym, ap, subst, ◌∙◌, arith}
+use Rattle.std.proofs.Common.{◌≡◌, ℕ, zero, suc, List, [], ◌∷◌, ◌++◌, Bool, true, false, cond, not, ◌&&◌, ◌||◌, Option, Some, None, map, length, slice_get, refl, sym, ap, ◌∙◌}
 use Rattle.std.specs.Prelude.{flat_map, codes}
 use Rattle.std.specs.List.{list_all, AllByRecursion}
 use Rattle.std.proofs.lemmas.Bool.{false≢true}
-use Rattle.std.proofs.lemmas.List.{map-append, length-map}
+use Rattle.std.proofs.lemmas.List.{map-append}
 use Rattle.std.proofs.lemmas.List.Folds.{list_all-append}
 use Rattle.og_names.specs.declared.NameId.{NameId}
-use Rattle.og_types.specs.declared.TypeId.{TypeId}
-use Rattle.og_types.specs.declared.Value.{Value}
 use Rattle.og_model.specs.declared.Model.{Model}
 use Rattle.og_model.specs.declared.Signal.{Signal}
 use Rattle.og_model.specs.declared.Variable.{Variable}
@@ -15,7 +13,7 @@ use Rattle.og_model.specs.declared.Region.{Region}
 use Rattle.og_model.specs.declared.EventId.{EventId}
 use Rattle.og_model.specs.declared.EventId.TheVariants as event
 use Rattle.og_model.specs.Regions.{regions}
-use Rattle.og_csubset.specs.Interface.{Shape, Number, Typed, Field, name_of, name_if, numbers_below, signal_id, signal_name, sorts_of, signal_sorts, timer_name, parameters_from, inputs_of, outputs_of, duration_of, start_function, signal_function, timer_function, incoming_from, incoming, functions_of, events_of, event_name, event_globals, variable_field, variable_fields, timer_field, timer_fields, region_field, number_field, stopped_name, kind_name, file_name, line_name, column_name, control_fields, fields_of}
+use Rattle.og_csubset.specs.Interface.{Typed, Field, name_of, name_if, numbers_below, signal_id, signal_name, sorts_of, signal_sorts, timer_name, parameters_from, inputs_of, outputs_of, duration_of, start_function, signal_function, timer_function, incoming_from, incoming, functions_of, events_of, event_name, event_globals, variable_field, variable_fields, timer_field, timer_fields, region_field, number_field, stopped_name, kind_name, file_name, line_name, column_name, control_fields, fields_of}
 use Rattle.og_types.specs.declared.Sort.{Sort}
 use Rattle.og_csubset.specs.declared.CProgram.{CProgram}
 use Rattle.og_csubset.specs.Kinds.{Kind, is_in, event_names, function_names, global_kind}
@@ -23,7 +21,7 @@ use Rattle.og_csubset.specs.Loading.{passes, is_shaped, has_field, is_free, has_
 use Rattle.og_csubset.specs.declared.LoadRule.TheVariants as rule
 use Rattle.std.proofs.lemmas.Option.{none-some}
 use Rattle.og_ir.proofs.ValueCells.{left_of, right_of}
-use Rattle.og_csubset.specs.Extension.{SameName, Extends, end_over, shown_over}
+use Rattle.og_csubset.specs.Extension.{SameName, Extends}
 
 -- equal lists made by functions that agree on the elements
 map_all : {A B : Type 0} (f g : A → B) (xs : List A) → AllByRecursion (λ x. f x ≡ g x) xs → map f xs ≡ map g xs

@@ -1,13 +1,11 @@
 -- What a program of a model that has more variables shows over the model without them.
-use Rattle.std.proofs.Common.{◌≡◌, ℕ, zero, suc, ◌+◌, ℤ, pos, negsuc, List, [], ◌∷◌, ◌++◌, Bool, true, false, cond, ◌||◌, Option, Some, None, map, length, take, slice_get, refl, sym, ap, ◌∙◌}
+use Rattle.std.proofs.Common.{◌≡◌, ℕ, zero, suc, ℤ, pos, negsuc, List, [], ◌∷◌, ◌++◌, Bool, true, false, cond, ◌||◌, Option, Some, None, length, take, refl, sym, ap, ◌∙◌}
 use Rattle.std.specs.Prelude.{unwrap_or}
 use Rattle.std.specs.List.{AllByRecursion}
 use Rattle.std.specs.Str.{bytes_eq}
 use Rattle.std.proofs.lemmas.Bool.{false≢true}
 use Rattle.std.proofs.lemmas.List.{length-map}
-use Rattle.og_names.specs.declared.NameId.{NameId}
 use Rattle.og_types.specs.declared.Sort.{Sort}
-use Rattle.og_types.specs.declared.TypeId.{TypeId}
 use Rattle.og_types.specs.declared.Value.{Value}
 use Rattle.og_model.specs.declared.Model.{Model}
 use Rattle.og_model.specs.declared.Region.{Region}
@@ -15,14 +13,14 @@ use Rattle.og_model.specs.declared.EventId.{EventId}
 use Rattle.og_model.specs.declared.EventId.TheVariants as event
 use Rattle.og_model.specs.declared.StuckRule.TheVariants as stuck
 use Rattle.og_model.specs.Regions.{regions}
-use Rattle.og_model.specs.Shown.{Event, Output, Set, Reset, End, Rest, Fault, Stopped, Past, Stuck, Shown, Stimulus, Signal, Expiry, is_stuck, has_stuck}
+use Rattle.og_model.specs.Shown.{Event, Output, Set, End, Rest, Fault, Stopped, Past, Stuck, Shown, Stimulus, Signal, Expiry, is_stuck, has_stuck}
 use Rattle.og_ir.specs.Cells.{Cells, ◌>>=◌}
 use Rattle.og_ir.specs.Reading.{value_in, cells_of, truth_in}
-use Rattle.og_ir.specs.Steps.{Config, Running, Over, Broken, Ran, exec}
-use Rattle.og_ir.proofs.ValueRead.{Bound, bound, same_value}
+use Rattle.og_ir.specs.Steps.{Config, Running, Over, Broken, exec}
+use Rattle.og_ir.proofs.ValueRead.{bound, same_value}
 use Rattle.og_csubset.specs.declared.CProgram.{CProgram}
 use Rattle.og_csubset.specs.Kinds.{place_in, global_names, function_names, first_globals}
-use Rattle.og_csubset.specs.Interface.{Shape, Number, Typed, Field, events_of, event_name, inputs_of, outputs_of, duration_of, signal_function, timer_function, variable_field, variable_fields, timer_fields, region_field, kind_name, stopped_name}
+use Rattle.og_csubset.specs.Interface.{Shape, Number, Typed, Field, events_of, event_name, inputs_of, outputs_of, signal_function, variable_field, variable_fields, region_field, kind_name, stopped_name}
 use Rattle.og_csubset.specs.Reads.{Globals, cells_named, number_named, value_of_shape, value_of_field, all_of, values_of, duration_in, event_shown, event_named, event_of, variables_in, timers_in, active_path, paths_in, kind_numbered, place_of_fault, fault_end, stopped_end, rest_end, end_without_fault, end_by_kind, end_of, put_named, cells_of_shape, inputs_set}
 use Rattle.og_csubset.specs.Step.{cstep}
 use Rattle.og_csubset.specs.Run.{goes_on, shown_by, shown_of, runs, all_stimuli, entered, begun, c_machine, c}

@@ -7,7 +7,6 @@ use Rattle.std.specs.Prelude.{option_map}
 use Rattle.std.specs.Str.{bytes_eq}
 use Rattle.og_csubset.specs.declared.CProgram.{CProgram}
 use Rattle.og_csubset.specs.declared.CStruct.{CStruct}
-use Rattle.og_csubset.specs.declared.CFunction.{CFunction}
 use Rattle.og_csubset.specs.declared.CStmt.{CStmt}
 use Rattle.og_csubset.specs.declared.CStmt.TheVariants.{Assign, IfGoto, Goto, Label, Switch, Call, Return}
 use Rattle.og_csubset.specs.declared.CCase.{CCase}
@@ -22,7 +21,7 @@ use Rattle.og_csubset.specs.declared.COp.TheVariants as op
 use Rattle.og_csubset.specs.declared.CRel.{CRel}
 use Rattle.og_csubset.specs.declared.CRel.TheVariants as rel
 use Rattle.og_csubset.specs.Kinds.{Kind, place_in, is_in, global_names, event_names, function_names, member_of, element_of, global_kind}
-use Rattle.og_ir.specs.Cells.{Cells, Cell, number_in, part_at, put_at, global, change_global}
+use Rattle.og_ir.specs.Cells.{Cells, Cell, number_in}
 use Rattle.og_ir.specs.Reading.{below}
 use Rattle.og_ir.specs.Arithmetic.{Trouble, Index, Value, ◌>>=◌, or_else, in_64_bits, sum_of, difference_of, product_of, quotient_of, remainder_of, negative_of, is_same}
 use Rattle.og_ir.specs.Steps.{Frame, Config, Running, Over, Broken, Ran, quiet, with_value, onward, jumped, returned, called, showing}
