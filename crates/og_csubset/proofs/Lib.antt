@@ -17,3 +17,4 @@ pub mod ExampleRuns
 pub mod FlatExampleRuns
 pub mod Extension
 pub mod ExtensionRuns
+pub mod Forms

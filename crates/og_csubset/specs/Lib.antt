@@ -15,3 +15,4 @@ pub mod FlatExamples
 pub mod Texts
 pub mod Plain
 pub mod Extension
+pub mod Forms
