@@ -23,12 +23,15 @@ use Rattle.og_csubset.specs.declared.COp.TheVariants as op
 use Rattle.og_ir.specs.Cells as cells
 use Rattle.og_ir.specs.Cells.{Cells, Cell, Empty, Both, number_in, part, change, part_at, put_at, global, change_global}
 use Rattle.og_ir.specs.Reading.{natural, only_if, below}
-use Rattle.og_ir.specs.Arithmetic.{Trouble, Overflow, Index, Divide, Value, ◌>>=◌, or_else, in_64_bits, is_zero, kept}
+use Rattle.og_ir.specs.Arithmetic.{Trouble, Overflow, Index, Divide, Value, ◌>>=◌, or_else, in_64_bits, is_zero, quotient_of}
+use Rattle.std.specs.Prelude.{find, ◌+ℤ◌, ◌-ℤ◌, ◌*ℤ◌, neg_ℤ, int_div}
+use Rattle.og_ir.proofs.ValueCells.{left_of, right_of}
+use Rattle.og_csubset.specs.declared.CTest.{size-CTest}
 use Rattle.og_ir.specs.FlatSteps.{Spot, cells_at, put}
 use Rattle.og_ir.proofs.ValueRead.{Bound, bound, same_value}
 use Rattle.og_csubset.specs.Kinds.{Kind, place_in, global_names, global_kind, type_of_one, type_unless, members_of, member_in, member_of, element_of}
-use Rattle.og_csubset.specs.Loading.{is_number_type, kind_after, type_by}
-use Rattle.og_csubset.specs.Step.{walk, spot_by}
+use Rattle.og_csubset.specs.Loading.{is_number_type, kind_after, type_by, number_by, is_number, type_of_place}
+use Rattle.og_csubset.specs.Step.{walk, spot_by, operation, holds_by, side, value_by, value_of, spot_of}
 use Rattle.og_csubset.specs.Forms.{Form, One, Row, Unknown, kind_of_member, one_of, row_of, form_of_type, form_of_sized, form_of, HasForm, HaveForms}
 
 -- a value that has P, or a trouble that is none of names and forms
@@ -198,3 +201,149 @@ module _ (f : CExpr → Result ℤ Trouble) (num : CExpr → Bool) (d : ℕ) (go
       (λ path found. subst (λ whole_form. Found structs whole whole_form (k ∷ path) last) (sym form)
       (found_inside structs whole (replicate size.value (one_of kind.type)) k (one_of kind.type) path last here
       (subst (λ i. Found structs here.here (form_of structs i) path last) (sym item) found)))))))
+
+-- ---- globals
+
+-- A global with its cells, and the globals after a change of it.
+pub record GlobalFound (structs : List CStruct) (globals : List CGlobal) (values : List Cells) (name : List ℕ) (kind : Kind) : Type 0 where
+  pub base : ℕ
+  pub place : place_in name (map (λ (g : CGlobal). g.name.bytes) globals) ≡ Some base
+  pub here : Cells
+  pub is : global base values ≡ Some here
+  pub formed : HasForm structs here (form_of structs kind)
+  pub put : (f : Cells → Cells) → HasForm structs (f here) (form_of structs kind) → HaveForms structs globals (change_global base f values)
+
+-- what a list of globals has under a name
+abbrev kind_in : List ℕ → List CGlobal → Option Kind
+kind_in name globals = cells.◌>>=◌ (find (λ (g : CGlobal). bytes_eq name g.name.bytes) globals) (λ g. Some (one_of g.kind))
+
+global_by : (b : Bool) (structs : List CStruct) (g : CGlobal) (globals : List CGlobal) (first : Cells) (values : List Cells) (name : List ℕ) (kind : Kind) → HasForm structs first (form_of_type structs g.kind) → HaveForms structs globals values → bytes_eq name g.name.bytes ≡ b → cells.◌>>=◌ (cond b (Some g) (find (λ (h : CGlobal). bytes_eq name h.name.bytes) globals)) (λ h. Some (one_of h.kind)) ≡ Some kind → (kind_in name globals ≡ Some kind → GlobalFound structs globals values name kind) → GlobalFound structs (g ∷ globals) (first ∷ values) name kind
+global_by true structs g globals first values name kind here others test e more =
+    let same = same_value (one_of g.kind) kind e in
+    record {
+      base = 0;
+      place = ap (λ b. cond b (Some 0) (cells.◌>>=◌ (place_in name (map (λ (h : CGlobal). h.name.bytes) globals)) (λ k. Some (k + 1)))) test;
+      here = first;
+      is = refl;
+      formed = subst (λ k. HasForm structs first (form_of structs k)) same here;
+      put = λ f new. (subst (λ k. HasForm structs (f first) (form_of structs k)) (sym same) new, others);
+    }
+global_by false structs g globals first values name kind here others test e more =
+    let found = more e in
+    let next : found.base + 1 ≡ suc found.base = omega arith in
+    record {
+      base = suc found.base;
+      place =
+          ap (λ b. cond b (Some 0) (cells.◌>>=◌ (place_in name (map (λ (h : CGlobal). h.name.bytes) globals)) (λ k. Some (k + 1)))) test
+          ∙ ap (λ o. cells.◌>>=◌ o (λ k. Some (k + 1))) found.place ∙ ap Some next;
+      here = found.here;
+      is = found.is;
+      formed = found.formed;
+      put = λ f new. (here, found.put f new);
+    }
+
+pub global_found : (structs : List CStruct) (globals : List CGlobal) (values : List Cells) (name : List ℕ) (kind : Kind) → HaveForms structs globals values → kind_in name globals ≡ Some kind → GlobalFound structs globals values name kind
+global_found structs [] values name kind h e = absurd (none-some kind e)
+global_found structs (g ∷ globals) [] name kind h e = absurd h
+global_found structs (g ∷ globals) (first ∷ values) name kind h e =
+    global_by (bytes_eq name g.name.bytes) structs g globals first values name kind h.0 h.1 refl e (global_found structs globals values name kind h.1)
+
+-- What stands at a spot, with its form, and the globals after new cells are put there.
+pub record FoundSpot (program : CProgram) (values : List Cells) (t : CType) (spot : Spot) : Type 0 where
+  pub here : Cells
+  pub is : cells_at values spot ≡ Ok here
+  pub formed : HasForm program.structs here (form_of_type program.structs t)
+  pub put_there : (new : Cells) → HasForm program.structs new (form_of_type program.structs t) → HaveForms program.structs program.globals (put values spot new)
+
+-- a kind without a size has the form of its type
+unsized_form : (structs : List CStruct) (size : Option ℕ) (t u : CType) → type_unless size t ≡ Some u → form_of_sized structs size t ≡ form_of_type structs u
+unsized_form structs (Some n) t u e = absurd (none-some u e)
+unsized_form structs None t u e = ap (form_of_type structs) (same_value t u e)
+
+module _ (program : CProgram) (values : List Cells) (formed : HaveForms program.structs program.globals values) where
+
+  module _ (f : CExpr → Result ℤ Trouble) (num : CExpr → Bool) (d : ℕ) (good : (e : CExpr) → size-CExpr e ≤ d → num e ≡ true → Good (λ z. Unit {0}) (f e)) where
+
+    pub spot_good : (place : CPlace) (t : CType) → size-CPlace place ≤ d → type_by num program place ≡ Some t → Good (FoundSpot program values t) (spot_by f program place)
+    spot_good place t deep e =
+        let kind = bound (global_kind program place.name.bytes) _ t e in
+        let last = bound (kind_after num program.structs kind.value place.path) type_of_one t kind.gives in
+        let g = global_found program.structs program.globals values place.name.bytes kind.value formed kind.is in
+        let form = unsized_form program.structs last.value.size last.value.type t last.gives in
+        good_there _ (place_in place.name.bytes (global_names program)) g.base Value _ g.place
+        (good_there _ (global_kind program place.name.bytes) kind.value Value _ kind.is
+        (good_bind (λ path. Found program.structs g.here (form_of program.structs kind.value) path last.value) _ (walk f program.structs kind.value place.path) _
+        (walk_good f num d good program.structs place.path kind.value last.value (path_below place d deep) last.is g.here g.formed)
+        (λ path found. record {
+          here = found.here;
+          is = ap (λ o. or_else o Index >>= λ c. or_else (part_at path c) Index) g.is ∙ ap (λ o. or_else o Index) found.is;
+          formed = subst (HasForm program.structs found.here) form found.formed;
+          put_there = λ new h. g.put (put_at path new) (found.put new (subst (HasForm program.structs new) (sym form) h));
+        })))
+
+    number_in_one : (here : Cells) → HasForm program.structs here One → Good (λ z. Unit {0}) (or_else (number_in here) Value)
+    number_in_one (Cell z) h = tt
+    number_in_one Empty h = h
+    number_in_one (Both first others) h = h
+
+    kept_good : (b : Bool) (z : ℤ) → Good (λ y. Unit {0}) (cond b (Ok z) (Err Overflow))
+    kept_good true z = tt
+    kept_good false z = tt
+
+    quotient_good : (b c : Bool) (z : ℤ) → Good (λ y. Unit {0}) (cond b (Err Divide) (cond c (Ok z) (Err Overflow)))
+    quotient_good true c z = tt
+    quotient_good false c z = kept_good c z
+
+    operation_good : (o : COp) (x y : ℤ) → Good (λ z. Unit {0}) (operation o x y)
+    operation_good op.Add x y = kept_good (in_64_bits (x +ℤ y)) (x +ℤ y)
+    operation_good op.Sub x y = kept_good (in_64_bits (x -ℤ y)) (x -ℤ y)
+    operation_good op.Mul x y = kept_good (in_64_bits (x *ℤ y)) (x *ℤ y)
+    operation_good op.Div x y = quotient_good (is_zero y) (in_64_bits (int_div x y)) (int_div x y)
+    operation_good op.Rem x y =
+        good_bind (λ z. Unit {0}) (λ z. Unit {0}) (quotient_of in_64_bits x y) _ (quotient_good (is_zero y) (in_64_bits (int_div x y)) (int_div x y)) (λ z u. tt)
+
+    number_type : (o : Option CType) → is_number_type o ≡ true → o ≡ Some Int64
+    number_type None e = absurd (false≢true e)
+    number_type (Some Int64) e = refl
+    number_type (Some (Struct name)) e = absurd (false≢true e)
+
+    side_good : (a b : CExpr) (taken : Bool) → Good (λ z. Unit {0}) (f a) → Good (λ z. Unit {0}) (f b) → Good (λ z. Unit {0}) (side f a b taken)
+    side_good a b true p q = p
+    side_good a b false p q = q
+
+    pub shape_good : (shape : CExpr-F CExpr CStep CPlace CTest) → depth_of_parts shape ≤ d → number_by num program shape ≡ true → Good (λ z. Unit {0}) (value_by f program values shape)
+    shape_good (Number n) deep h = tt
+    shape_good (Read place) deep h =
+        good_bind (FoundSpot program values Int64) _ (spot_by f program place) _ (spot_good place Int64 deep (number_type (type_by num program place) h)) (λ spot found.
+        subst (λ r. Good (λ z. Unit {0}) (r >>= λ c. or_else (number_in c) Value)) (sym found.is) (number_in_one found.here found.formed))
+    shape_good (Minus e) deep h = good_bind (λ z. Unit {0}) _ (f e) _ (good e deep h) (λ x u. kept_good (in_64_bits (neg_ℤ x)) (neg_ℤ x))
+    shape_good (Op o a b) deep h =
+        let left = left_of (num a) (num b) h in
+        let right = right_of (num a) (num b) h in
+        good_bind (λ z. Unit {0}) _ (f a) _ (good a (omega (arith, deep)) left) (λ x u.
+        good_bind (λ z. Unit {0}) _ (f b) _ (good b (omega (arith, deep)) right) (λ y v. operation_good o x y))
+    shape_good (Pick test a b) deep h =
+        let three = left_of (num test.left && num test.right && num a) (num b) h in
+        let two = left_of (num test.left && num test.right) (num a) three in
+        let sides : size-CTest test ≤ d = omega (arith, deep) in
+        good_bind (λ t. Unit {0}) _ (holds_by f test) _
+        (good_bind (λ z. Unit {0}) _ (f test.left) _ (good test.left (left_below test d sides) (left_of (num test.left) (num test.right) two)) (λ x u.
+        good_bind (λ z. Unit {0}) _ (f test.right) _ (good test.right (right_below test d sides) (right_of (num test.left) (num test.right) two)) (λ y v. tt)))
+        (λ taken u. side_good a b taken
+        (good a (omega (arith, deep)) (right_of (num test.left && num test.right) (num a) three))
+        (good b (omega (arith, deep)) (right_of (num test.left && num test.right && num a) (num b) h)))
+
+  -- a number of a program that loads has a value, or breaks by a number, an index or a divisor
+  value_good_within : (d : ℕ) (e : CExpr) → size-CExpr e ≤ d → is_number program e ≡ true → Good (λ z. Unit {0}) (value_of program values e)
+  value_good_within zero e deep h = absurd (let is = depth_is e in omega (arith, is, deep))
+  value_good_within (suc d) e deep h =
+      let is = depth_is e in
+      subst (Good (λ z. Unit {0})) (sym (value_is program values e))
+      (shape_good (value_of program values) (is_number program) d (value_good_within d) (out-CExpr e) (omega (arith, is, deep)) (sym (is_number_is program e) ∙ h))
+
+  pub value_good : (e : CExpr) → is_number program e ≡ true → Good (λ z. Unit {0}) (value_of program values e)
+  value_good e h = value_good_within (size-CExpr e) e (omega arith) h
+
+  pub place_good : (place : CPlace) (t : CType) → type_of_place program place ≡ Some t → Good (FoundSpot program values t) (spot_of program values place)
+  place_good place t e =
+      spot_good (value_of program values) (is_number program) (size-CPlace place) (λ part deep h. value_good part h) place t (omega arith) e
