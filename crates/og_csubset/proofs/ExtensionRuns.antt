@@ -171,11 +171,11 @@ module _ (M L : Model) (ext : Extends M L) where
       (λ e h. let k = bound (number_named g kind_name) _ e h in ap (λ o. o >>= end_by_kind M g) k.is ∙ by_kind_keeps g k.value e k.gives)
       free
 
-or_left : (a b : Bool) → (a || b) ≡ false → a ≡ false
+pub or_left : (a b : Bool) → (a || b) ≡ false → a ≡ false
 or_left true b h = h
 or_left false b h = refl
 
-or_right : (a b : Bool) → (a || b) ≡ false → b ≡ false
+pub or_right : (a b : Bool) → (a || b) ≡ false → b ≡ false
 or_right true b h = absurd (false≢true (sym h))
 or_right false b h = h
 

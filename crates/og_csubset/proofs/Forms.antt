@@ -152,7 +152,7 @@ member_form structs kind name k inner e =
 -- ---- places
 
 -- a value that is chosen, or none
-chosen : {A : Type 0} (b : Bool) (o : Option A) (y : A) → cond b o None ≡ Some y → (b ≡ true) × (o ≡ Some y)
+pub chosen : {A : Type 0} (b : Bool) (o : Option A) (y : A) → cond b o None ≡ Some y → (b ≡ true) × (o ≡ Some y)
 chosen true o y e = (refl, e)
 chosen false o y e = absurd (none-some y e)
 

@@ -18,3 +18,4 @@ pub mod FlatExampleRuns
 pub mod Extension
 pub mod ExtensionRuns
 pub mod Forms
+pub mod Steady

@@ -1,14 +1,18 @@
 -- The form of the cells of a type: one number, or a row with a part for each member of a struct or for each element of an
 -- array. The cells of a program that loads always have the forms of its globals' types, so that no statement meets a name, a
 -- struct or a label that is not there: what a run does with a program that does not load never shows in one that does.
-use Rattle.std.specs.Prelude.{◌≡◌, ℕ, ◌<◌, ⊤, List, [], ◌∷◌, Bool, true, Option, Some, None, length, map, replicate, is_some, slice_get}
+use Rattle.std.specs.Prelude.{◌≡◌, ℕ, ⊤, List, [], ◌∷◌, Option, Some, None, map, replicate, slice_get}
 use Rattle.og_csubset.specs.declared.CProgram.{CProgram}
 use Rattle.og_csubset.specs.declared.CStruct.{CStruct}
 use Rattle.og_csubset.specs.declared.CMember.{CMember}
 use Rattle.og_csubset.specs.declared.CGlobal.{CGlobal}
 use Rattle.og_csubset.specs.declared.CType.{CType}
 use Rattle.og_csubset.specs.declared.CType.TheVariants.{Int64, Struct}
+use Rattle.std.specs.List.{AllByRecursion}
+use Rattle.og_csubset.specs.declared.CFunction.{CFunction}
 use Rattle.og_ir.specs.Cells.{Cells, Cell, Empty, Both}
+use Rattle.og_ir.specs.Arithmetic.{Trouble, Overflow, Index, Divide, Value}
+use Rattle.og_ir.specs.Steps.{Frame, Config, Running, Over, Broken}
 use Rattle.og_csubset.specs.Kinds.{Kind, members_of}
 
 pub data Form : Type 0 where
@@ -61,3 +65,21 @@ HaveForms structs [] (cells ∷ more) = ⊥
 HaveForms structs (g ∷ globals) [] = ⊥
 HaveForms structs (g ∷ globals) (cells ∷ more) =
     HasForm structs cells (form_of_type structs g.kind) × HaveForms structs globals more
+
+-- a trouble of numbers, indices and divisors
+abbrev pub IsOfNumbers : Trouble → Type 0
+IsOfNumbers Overflow = ⊤
+IsOfNumbers Index = ⊤
+IsOfNumbers Divide = ⊤
+IsOfNumbers Value = ⊥
+
+-- the function of a call is there
+abbrev pub IsCall : CProgram → Frame → Type 0
+IsCall program frame = (f : CFunction) × (slice_get program.functions frame.function ≡ Some f)
+
+-- the cells have their forms and the functions are there; a run that is broken is so by a number, an index or a divisor
+abbrev pub IsSteady : CProgram → Config → Type 0
+IsSteady program (Running globals frame callers) =
+    HaveForms program.structs program.globals globals × IsCall program frame × AllByRecursion (IsCall program) callers
+IsSteady program (Over globals) = HaveForms program.structs program.globals globals
+IsSteady program (Broken trouble) = IsOfNumbers trouble
