@@ -21,3 +21,5 @@ pub mod PlainSpelt
 pub mod TextLayout
 pub mod WrongPlace
 pub mod WellMade
+pub mod Forms
+pub mod Steady

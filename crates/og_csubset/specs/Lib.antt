@@ -16,3 +16,4 @@ pub mod Texts
 pub mod Plain
 pub mod Extension
 pub mod Wrong
+pub mod Forms
