@@ -19,3 +19,4 @@ pub mod PlainSpelt
 pub mod TextLayout
 pub mod WrongPlace
 pub mod WellMade
+pub mod Recognizer
