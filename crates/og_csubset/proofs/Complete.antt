@@ -43,14 +43,14 @@ level (operator op ∷ ts) = operator_level op
 level (mark m ∷ ts) = mark_level m
 level (_ ∷ ts) = 3
 
-level_sum : (op : COp) → is_sum op ≡ true → operator_level op ≡ 2
+pub level_sum : (op : COp) → is_sum op ≡ true → operator_level op ≡ 2
 level_sum Add h = refl
 level_sum Sub h = refl
 level_sum Mul h = absurd (true≢false (sym h))
 level_sum Div h = absurd (true≢false (sym h))
 level_sum Rem h = absurd (true≢false (sym h))
 
-level_product : (op : COp) → is_product op ≡ true → operator_level op ≡ 1
+pub level_product : (op : COp) → is_product op ≡ true → operator_level op ≡ 1
 level_product Add h = absurd (true≢false (sym h))
 level_product Sub h = absurd (true≢false (sym h))
 level_product Mul h = refl
@@ -265,11 +265,11 @@ not_least_test d a op ts us h fits more same = go d (subst (λ l. number_at d l 
         let clash : mark close_round ≡ relation op = ap (λ o. behind o (mark dot)) (sym (least_sum (suc k) k more) ∙ e) in cc
 
 -- the levels at the ends of the parts
-sum_rest_level : {a e : CExpr} {ts rest : List Token} → SumGoesOn a e ts rest → level rest ≡ 3 → 1 < level ts
+pub sum_rest_level : {a e : CExpr} {ts rest : List Token} → SumGoesOn a e ts rest → level rest ≡ 3 → 1 < level ts
 sum_rest_level sum_ends h = omega arith
 sum_rest_level (add {op} is p more) h = omega (arith, level_sum op is)
 
-product_rest_level : {a e : CExpr} {ts rest : List Token} → ProductGoesOn a e ts rest → 1 < level rest → 0 < level ts
+pub product_rest_level : {a e : CExpr} {ts rest : List Token} → ProductGoesOn a e ts rest → 1 < level rest → 0 < level ts
 product_rest_level product_ends h = omega arith
 product_rest_level (multiply {op} is p more) h = omega (arith, level_product op is)
 

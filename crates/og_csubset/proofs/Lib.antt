@@ -20,3 +20,4 @@ pub mod TextLayout
 pub mod WrongPlace
 pub mod WellMade
 pub mod Recognizer
+pub mod Accepted
