@@ -21,3 +21,4 @@ pub mod WrongPlace
 pub mod WellMade
 pub mod Recognizer
 pub mod Accepted
+pub mod Recognized
