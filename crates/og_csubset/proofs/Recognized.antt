@@ -207,3 +207,138 @@ operand_below n b S (mark open_round ∷ ts) fits h =
     inr (bracket_below n b S a.0 ts a.1 (omega (arith, sum_shrinks a.2)) a.2 a.3)
 operand_below n b S (mark _ ∷ ts) fits h = no h
 operand_below n b S (_ ∷ ts) fits h = no h
+
+signed_of : (S : Symbols) (ts : List Token) → LiteralIn (more ∷ S) ts ⊎ OperandIn (more ∷ S) ts → SignedIn S ts
+signed_of S ts (inl a) = (Number (pos a.0), a.1, subst (λ l. IsSigned (Number (pos a.0)) l a.1) (sym a.2) positive, a.3)
+signed_of S ts (inr a) = (a.0, a.1, unsigned a.2, a.3)
+
+negated_sound : (n : ℕ) (rest : List Token) → IsSigned (negated n) (operator Sub ∷ literal n rest) rest
+negated_sound zero rest = minus_zero
+negated_sound (suc n) rest = negative
+
+minus_of : (S : Symbols) (ts : List Token) → LiteralIn (more ∷ S) ts ⊎ OperandIn (more ∷ S) ts → SignedIn S (operator Sub ∷ ts)
+minus_of S ts (inl a) =
+    (negated a.0, a.1, subst (λ l. IsSigned (negated a.0) (operator Sub ∷ l) a.1) (sym a.2) (negated_sound a.0 a.1), a.3)
+minus_of S ts (inr a) = (Minus a.0, a.1, minus a.2, a.3)
+
+signed_from : (n : ℕ) → Below n → (S : Symbols) (ts : List Token) → length ts ≤ suc n → accepts (a_sum ∷ S) ts ≡ true → SignedIn S ts
+signed_from n b S [] fits h = no h
+signed_from n b S (operator Sub ∷ ts) fits h = minus_of S ts (operand_below n b (more ∷ S) ts (omega arith) h)
+signed_from n b S (operator _ ∷ ts) fits h = no h
+signed_from n b S (name w ∷ ts) fits h = signed_of S (name w ∷ ts) (operand_below n b (more ∷ S) (name w ∷ ts) fits h)
+signed_from n b S (keyword INT64_C ∷ ts) fits h = signed_of S (keyword INT64_C ∷ ts) (operand_below n b (more ∷ S) (keyword INT64_C ∷ ts) fits h)
+signed_from n b S (keyword _ ∷ ts) fits h = no h
+signed_from n b S (mark open_round ∷ ts) fits h = signed_of S (mark open_round ∷ ts) (operand_below n b (more ∷ S) (mark open_round ∷ ts) fits h)
+signed_from n b S (mark _ ∷ ts) fits h = no h
+signed_from n b S (_ ∷ ts) fits h = no h
+
+member_from : (n : ℕ) → Below n → (S : Symbols) (ts : List Token) → length ts ≤ n → accepts (a_name ∷ a_path ∷ S) ts ≡ true → PathIn S (mark dot ∷ ts)
+member_from n b S ts fits h =
+    let a = name_in (a_path ∷ S) ts h in
+    let c = b.path S a.1 (omega (arith, ap (λ l. length l) a.2)) a.3 in
+    (Member (word a.0) ∷ c.0, c.1, subst (λ l. IsPath (Member (word a.0) ∷ c.0) (mark dot ∷ l) c.1) (sym a.2) (member c.2), c.3)
+
+index_from : (n : ℕ) → Below n → (S : Symbols) (ts : List Token) → length ts ≤ n → accepts (a_sum ∷ a_mark close_square ∷ a_path ∷ S) ts ≡ true
+    → PathIn S (mark open_square ∷ ts)
+index_from n b S ts fits h =
+    let a = sum_below n b (a_mark close_square ∷ a_path ∷ S) ts fits h in
+    let c = mark_in close_square (a_path ∷ S) a.1 a.3 in
+    let d = b.path S c.0 (omega (arith, sum_shrinks a.2, ap (λ l. length l) c.1)) c.2 in
+    (At a.0 ∷ d.0, d.1, index (subst (λ l. IsSum a.0 ts l) c.1 a.2) d.2, d.3)
+
+path_from : (n : ℕ) → Below n → (S : Symbols) (ts : List Token) → length ts ≤ suc n → accepts (a_path ∷ S) ts ≡ true → PathIn S ts
+path_from n b S [] fits h = ([], [], path_ends, h)
+path_from n b S (mark dot ∷ ts) fits h = member_from n b S ts (omega arith) h
+path_from n b S (mark open_square ∷ ts) fits h = index_from n b S ts (omega arith) h
+path_from n b S (mark open_brace ∷ ts) fits h = ([], _, path_ends, h)
+path_from n b S (mark close_brace ∷ ts) fits h = ([], _, path_ends, h)
+path_from n b S (mark close_square ∷ ts) fits h = ([], _, path_ends, h)
+path_from n b S (mark open_round ∷ ts) fits h = ([], _, path_ends, h)
+path_from n b S (mark close_round ∷ ts) fits h = ([], _, path_ends, h)
+path_from n b S (mark semicolon ∷ ts) fits h = ([], _, path_ends, h)
+path_from n b S (mark colon ∷ ts) fits h = ([], _, path_ends, h)
+path_from n b S (mark question ∷ ts) fits h = ([], _, path_ends, h)
+path_from n b S (mark equals ∷ ts) fits h = ([], _, path_ends, h)
+path_from n b S (name w ∷ ts) fits h = ([], _, path_ends, h)
+path_from n b S (number k ∷ ts) fits h = ([], _, path_ends, h)
+path_from n b S (operator op ∷ ts) fits h = ([], _, path_ends, h)
+path_from n b S (relation op ∷ ts) fits h = ([], _, path_ends, h)
+path_from n b S (keyword k ∷ ts) fits h = ([], _, path_ends, h)
+
+-- what was found with its end
+ended : (S : Symbols) (start ts : List Token) → Partial start ts → accepts S ts ≡ true → SumIn S start
+ended S start ts p h = let e = finished start ts p in (e.0, ts, e.1, h)
+
+rest_from : (n : ℕ) → Below n → (S : Symbols) (start ts : List Token) → Partial start ts → length ts ≤ suc n → accepts (more ∷ S) ts ≡ true → SumIn S start
+rest_from n b S start [] p fits h = ended S start [] p h
+rest_from n b S start (operator op ∷ ts) p fits h =
+    let a = b.signed S ts (omega arith) h in
+    b.rest S start a.1 (extended start ts a.1 op a.0 p a.2) (omega (arith, signed_shrinks a.2)) a.3
+rest_from n b S start (name w ∷ ts) p fits h = ended S start (name w ∷ ts) p h
+rest_from n b S start (number k ∷ ts) p fits h = ended S start (number k ∷ ts) p h
+rest_from n b S start (relation op ∷ ts) p fits h = ended S start (relation op ∷ ts) p h
+rest_from n b S start (keyword k ∷ ts) p fits h = ended S start (keyword k ∷ ts) p h
+rest_from n b S start (mark m ∷ ts) p fits h = ended S start (mark m ∷ ts) p h
+
+below_none : Below 0
+below_none = record { signed = signed_none; path = path_none; rest = rest_none }
+  where
+    signed_none : (S : Symbols) (ts : List Token) → length ts ≤ 0 → accepts (a_sum ∷ S) ts ≡ true → SignedIn S ts
+    signed_none S [] fits h = no h
+    signed_none S (u ∷ us) fits h = absurd (omega (arith, fits))
+    path_none : (S : Symbols) (ts : List Token) → length ts ≤ 0 → accepts (a_path ∷ S) ts ≡ true → PathIn S ts
+    path_none S [] fits h = ([], [], path_ends, h)
+    path_none S (u ∷ us) fits h = absurd (omega (arith, fits))
+    rest_none : (S : Symbols) (start ts : List Token) → Partial start ts → length ts ≤ 0 → accepts (more ∷ S) ts ≡ true → SumIn S start
+    rest_none S start [] p fits h = ended S start [] p h
+    rest_none S start (u ∷ us) p fits h = absurd (omega (arith, fits))
+
+all_below : (n : ℕ) → Below n
+all_below zero = below_none
+all_below (suc n) = record { signed = signed_from n (all_below n); path = path_from n (all_below n); rest = rest_from n (all_below n) }
+
+sum_in : (S : Symbols) (ts : List Token) → accepts (a_sum ∷ S) ts ≡ true → SumIn S ts
+sum_in S ts h = sum_below (length ts) (all_below (length ts)) S ts (omega arith) h
+
+path_in : (S : Symbols) (ts : List Token) → accepts (a_path ∷ S) ts ≡ true → PathIn S ts
+path_in S ts h = (all_below (length ts)).path S ts (omega arith) h
+
+-- `l;` behind `goto`
+jump_in : (S : Symbols) (ts : List Token) → accepts (jump_rest S) ts ≡ true → (l : List ℕ) × (us : List Token) × (ts ≡ name l ∷ mark semicolon ∷ us) × (accepts S us ≡ true)
+jump_in S ts h =
+    let a = name_in (a_mark semicolon ∷ S) ts h in
+    let b = mark_in semicolon S a.1 a.3 in
+    (a.0, b.0, a.2 ∙ on _ b.1, b.2)
+
+least_in : (S : Symbols) (ts : List Token) → accepts (least_rest ++ S) ts ≡ true → (us : List Token) × (mark open_round ∷ ts ≡ least_text us) × (accepts S us ≡ true)
+least_in S ts h =
+    let a = sign_in _ ts h in
+    let b = keyword_in INT64_C _ a.0 a.2 in
+    let c = mark_in open_round _ b.0 b.2 in
+    let d = this_in (2 ^ 63 - 1) _ c.0 c.2 in
+    let e = mark_in close_round _ d.0 d.2 in
+    let f = sign_in _ e.0 e.2 in
+    let g = keyword_in INT64_C _ f.0 f.2 in
+    let i = mark_in open_round _ g.0 g.2 in
+    let j = this_in 1 _ i.0 i.2 in
+    let k = mark_in close_round _ j.0 j.2 in
+    let l = mark_in close_round S k.0 k.2 in
+    (l.0, on _ (a.1 ∙ on _ (b.1 ∙ on _ (c.1 ∙ on _ (d.1 ∙ on _ (e.1 ∙ on _ (f.1 ∙ on _ (g.1 ∙ on _ (i.1 ∙ on _ (j.1 ∙ on _ (k.1 ∙ on _ l.1)))))))))), l.2)
+
+abbrev ConstantIn : Symbols → List Token → Type 0
+ConstantIn S ts = (z : ℤ) × (us : List Token) × IsConstant z ts us × (accepts S us ≡ true)
+
+constant_in : (S : Symbols) (ts : List Token) → accepts (a_constant ∷ S) ts ≡ true → ConstantIn S ts
+constant_in S [] h = no h
+constant_in S (operator Sub ∷ ts) h =
+    let a = keyword_in INT64_C (literal_rest S) ts h in
+    let b = literal_in S a.0 a.2 in
+    (neg_ℤ (pos b.0), b.1, subst (λ l. IsConstant (neg_ℤ (pos b.0)) (operator Sub ∷ l) b.1) (sym (a.1 ∙ b.2)) negative_constant, b.3)
+constant_in S (operator _ ∷ ts) h = no h
+constant_in S (keyword INT64_C ∷ ts) h =
+    let b = literal_in S ts h in (pos b.0, b.1, subst (λ l. IsConstant (pos b.0) l b.1) (sym b.2) constant, b.3)
+constant_in S (keyword _ ∷ ts) h = no h
+constant_in S (mark open_round ∷ ts) h =
+    let a = least_in S ts h in (least, a.0, subst (λ l. IsConstant least l a.0) (sym a.1) least_constant, a.2)
+constant_in S (mark _ ∷ ts) h = no h
+constant_in S (_ ∷ ts) h = no h
