@@ -7,9 +7,10 @@ use Rattle.og_csubset.specs.declared.CStruct.{CStruct}
 use Rattle.og_csubset.specs.declared.CMember.{CMember}
 use Rattle.og_csubset.specs.declared.CGlobal.{CGlobal}
 use Rattle.og_csubset.specs.declared.CType.{CType}
+use Rattle.og_csubset.specs.declared.CType.TheVariants.{Int64, Struct}
 use Rattle.og_csubset.specs.declared.CFunction.{CFunction}
 use Rattle.og_csubset.specs.declared.CStmt.{CStmt}
-use Rattle.og_csubset.specs.declared.CStmt.TheVariants.{Assign}
+use Rattle.og_csubset.specs.declared.CStmt.TheVariants.{Assign, IfGoto, Goto, Label, Switch, Call, Return}
 use Rattle.og_csubset.specs.declared.CCase.{CCase}
 use Rattle.og_csubset.specs.declared.CPlace.{CPlace}
 use Rattle.og_csubset.specs.declared.CStep.{CStep, Member, At}
@@ -22,7 +23,7 @@ use Rattle.og_csubset.specs.Tokens.{Token, name, number, operator, relation, key
 use Rattle.og_csubset.specs.Spelling.{word, least, literal, least_text, is_sum, is_product, IsSum, sum, SumGoesOn, sum_ends, add, IsProduct, product, ProductGoesOn, product_ends, multiply, IsSigned, positive, negative, minus_zero, unsigned, minus, IsOperand, read, bracket, pick, least_number, IsTest, test, IsPlace, place, IsPath, path_ends, member, index, Each, none, one_more, IsConstant, constant, negative_constant, least_constant, IsCase, case_goto, IsStatement, assign, if_goto, goto, label, switch, call, return, IsType, number_type, struct_type, IsMember, single, array, IsStruct, structure, IsGlobal, global, IsEvent, event, IsFunction, function, IsProgram, program}
 use Rattle.og_csubset.proofs.Reading.{Found, least_at, mark_number, keyword_number, number_at, sum_at, negated}
 use Rattle.og_csubset.proofs.Seen.{Some-same, seen_least, least_missed, same_mark_number, same_keyword_number}
-use Rattle.og_csubset.proofs.Complete.{sum_complete, least_sum, sum_shrinks, signed_shrinks, path_shrinks}
+use Rattle.og_csubset.proofs.Complete.{sum_complete, least_sum, sum_shrinks, signed_shrinks, path_shrinks, case_shrinks, statement_shrinks, member_shrinks, struct_shrinks, global_shrinks, event_shrinks, function_shrinks}
 use Rattle.og_csubset.proofs.Sound.{on}
 use Rattle.og_csubset.proofs.PlainSpelt.{to_product, to_sum, sum_on, product_on}
 use Rattle.og_csubset.proofs.Recognizer.{Symbol, Symbols, a_keyword, a_mark, a_sign, a_name, a_number, this_number, a_size, a_relation, a_sum, more, an_operand, a_path, bracket_rest, a_constant, cases, named_rest, statements, member_rest, a_member, members, structs, globals, head_rest, declarations, functions, step, step_on, and_goes_on, accepts, may_end, program_symbols, literal_rest, least_rest, jump_rest, value_rest, head, body}
@@ -342,3 +343,255 @@ constant_in S (mark open_round ∷ ts) h =
     let a = least_in S ts h in (least, a.0, subst (λ l. IsConstant least l a.0) (sym a.1) least_constant, a.2)
 constant_in S (mark _ ∷ ts) h = no h
 constant_in S (_ ∷ ts) h = no h
+
+-- a repetition: nothing more of it, or one more text
+module _ {A : Type 0} (Is : A → List Token → List Token → Type 0) (X : Symbol)
+    (shrinks : (x : A) (ts rest : List Token) → Is x ts rest → length rest < length ts)
+    (one : (S : Symbols) (ts : List Token) → accepts (X ∷ S) ts ≡ true
+        → (accepts S ts ≡ true) ⊎ ((x : A) × (us : List Token) × Is x ts us × (accepts (X ∷ S) us ≡ true))) where
+  each_in : (n : ℕ) (S : Symbols) (ts : List Token) → length ts ≤ n → accepts (X ∷ S) ts ≡ true
+      → (xs : List A) × (us : List Token) × Each Is xs ts us × (accepts S us ≡ true)
+  each_in zero S ts fits h = ⊎_elim (λ stop. ([], ts, none, stop)) (λ p. absurd (omega (arith, fits, shrinks p.0 ts p.1 p.2))) (one S ts h)
+  each_in (suc n) S ts fits h =
+      ⊎_elim (λ stop. ([], ts, none, stop))
+          (λ p. let others = each_in n S p.1 (omega (arith, fits, shrinks p.0 ts p.1 p.2)) p.3 in
+              (p.0 ∷ others.0, others.1, one_more p.2 others.2, others.3))
+          (one S ts h)
+
+-- one text before others of its kind
+abbrev OneIn : {A : Type 0} → (A → List Token → List Token → Type 0) → Symbols → List Token → Type 0
+OneIn {A} Is S ts = (x : A) × (us : List Token) × Is x ts us × (accepts S us ≡ true)
+
+case_in : (S : Symbols) (ts : List Token) → accepts (a_constant ∷ a_mark colon ∷ a_keyword goto_ ∷ jump_rest S) ts ≡ true → OneIn IsCase S (keyword case_ ∷ ts)
+case_in S ts h =
+    let a = constant_in (a_mark colon ∷ a_keyword goto_ ∷ jump_rest S) ts h in
+    let b = mark_in colon (a_keyword goto_ ∷ jump_rest S) a.1 a.3 in
+    let c = keyword_in goto_ (jump_rest S) b.0 b.2 in
+    let d = jump_in S c.0 c.2 in
+    (record { value = a.0; label = word d.0 }, d.1, case_goto (subst (λ l. IsConstant a.0 ts l) (b.1 ∙ on _ (c.1 ∙ on _ d.2)) a.2), d.3)
+
+one_case : (S : Symbols) (ts : List Token) → accepts (cases ∷ S) ts ≡ true → (accepts S ts ≡ true) ⊎ OneIn IsCase (cases ∷ S) ts
+one_case S [] h = inl h
+one_case S (keyword case_ ∷ ts) h = inr (case_in (cases ∷ S) ts h)
+one_case S (keyword _ ∷ ts) h = inl h
+one_case S (_ ∷ ts) h = inl h
+
+assign_in : (S : Symbols) (w : List ℕ) (steps : List CStep) (ts us : List Token) → IsPath steps ts us
+    → accepts (a_mark equals ∷ a_sum ∷ a_mark semicolon ∷ S) us ≡ true → OneIn IsStatement S (name w ∷ ts)
+assign_in S w steps ts us p h =
+    let a = mark_in equals (a_sum ∷ a_mark semicolon ∷ S) us h in
+    let b = sum_in (a_mark semicolon ∷ S) a.0 a.2 in
+    let c = mark_in semicolon S b.1 b.3 in
+    (Assign (record { name = word w; path = steps }) b.0, c.0,
+        assign (place (subst (λ l. IsPath steps ts l) a.1 p)) (subst (λ l. IsSum b.0 a.0 l) c.1 b.2), c.2)
+
+named_in : (S : Symbols) (w : List ℕ) (ts : List Token) → accepts (named_rest ∷ S) ts ≡ true → OneIn IsStatement S (name w ∷ ts)
+named_in S w [] h = no h
+named_in S w (mark colon ∷ ts) h =
+    let a = mark_in semicolon S ts h in
+    (Label (word w), a.0, subst (λ l. IsStatement (Label (word w)) (name w ∷ mark colon ∷ l) a.0) (sym a.1) label, a.2)
+named_in S w (mark open_round ∷ ts) h =
+    let a = mark_in close_round (a_mark semicolon ∷ S) ts h in
+    let b = mark_in semicolon S a.0 a.2 in
+    (Call (word w), b.0, subst (λ l. IsStatement (Call (word w)) (name w ∷ mark open_round ∷ l) b.0) (sym (a.1 ∙ on _ b.1)) call, b.2)
+named_in S w (mark dot ∷ ts) h =
+    let a = member_from (length ts) (all_below (length ts)) (a_mark equals ∷ a_sum ∷ a_mark semicolon ∷ S) ts (omega arith) h in
+    assign_in S w a.0 (mark dot ∷ ts) a.1 a.2 a.3
+named_in S w (mark open_square ∷ ts) h =
+    let a = index_from (length ts) (all_below (length ts)) (a_mark equals ∷ a_sum ∷ a_mark semicolon ∷ S) ts (omega arith) h in
+    assign_in S w a.0 (mark open_square ∷ ts) a.1 a.2 a.3
+named_in S w (mark equals ∷ ts) h = assign_in S w [] (mark equals ∷ ts) (mark equals ∷ ts) path_ends h
+named_in S w (mark _ ∷ ts) h = no h
+named_in S w (_ ∷ ts) h = no h
+
+if_in : (S : Symbols) (ts : List Token) → accepts (a_mark open_round ∷ a_sum ∷ a_relation ∷ a_sum ∷ a_mark close_round ∷ a_keyword goto_ ∷ jump_rest S) ts ≡ true
+    → OneIn IsStatement S (keyword if_ ∷ ts)
+if_in S ts h =
+    let a = mark_in open_round (a_sum ∷ a_relation ∷ a_sum ∷ a_mark close_round ∷ a_keyword goto_ ∷ jump_rest S) ts h in
+    let b = sum_in (a_relation ∷ a_sum ∷ a_mark close_round ∷ a_keyword goto_ ∷ jump_rest S) a.0 a.2 in
+    let c = relation_in (a_sum ∷ a_mark close_round ∷ a_keyword goto_ ∷ jump_rest S) b.1 b.3 in
+    let d = sum_in (a_mark close_round ∷ a_keyword goto_ ∷ jump_rest S) c.1 c.3 in
+    let e = mark_in close_round (a_keyword goto_ ∷ jump_rest S) d.1 d.3 in
+    let f = keyword_in goto_ (jump_rest S) e.0 e.2 in
+    let g = jump_in S f.0 f.2 in
+    let t : CTest = record { op = c.0; left = b.0; right = d.0 } in
+    let is : IsTest t a.0 d.1 = test (subst (λ l. IsSum b.0 a.0 l) c.2 b.2) d.2 in
+    (IfGoto t (word g.0), g.1,
+        subst (λ l. IsStatement (IfGoto t (word g.0)) (keyword if_ ∷ l) g.1) (sym a.1)
+            (if_goto (subst (λ l. IsTest t a.0 l) (e.1 ∙ on _ (f.1 ∙ on _ g.2)) is)), g.3)
+
+switch_in : (S : Symbols) (ts : List Token)
+    → accepts (a_mark open_round ∷ a_sum ∷ a_mark close_round ∷ a_mark open_brace ∷ cases ∷ a_keyword default_ ∷ a_mark colon
+        ∷ a_keyword goto_ ∷ jump_rest (a_mark close_brace ∷ S)) ts ≡ true
+    → OneIn IsStatement S (keyword switch_ ∷ ts)
+switch_in S ts h =
+    let a = mark_in open_round _ ts h in
+    let b = sum_in (a_mark close_round ∷ a_mark open_brace ∷ cases ∷ a_keyword default_ ∷ a_mark colon ∷ a_keyword goto_ ∷ jump_rest (a_mark close_brace ∷ S)) a.0 a.2 in
+    let c = mark_in close_round _ b.1 b.3 in
+    let d = mark_in open_brace _ c.0 c.2 in
+    let e = each_in IsCase cases case_shrinks one_case (length d.0) (a_keyword default_ ∷ a_mark colon ∷ a_keyword goto_ ∷ jump_rest (a_mark close_brace ∷ S)) d.0 (omega arith) d.2 in
+    let f = keyword_in default_ _ e.1 e.3 in
+    let g = mark_in colon _ f.0 f.2 in
+    let i = keyword_in goto_ _ g.0 g.2 in
+    let j = jump_in (a_mark close_brace ∷ S) i.0 i.2 in
+    let k = mark_in close_brace S j.1 j.3 in
+    (Switch b.0 e.0 (word j.0), k.0,
+        subst (λ l. IsStatement (Switch b.0 e.0 (word j.0)) (keyword switch_ ∷ l) k.0) (sym a.1)
+            (switch (subst (λ l. IsSum b.0 a.0 l) (c.1 ∙ on _ d.1) b.2)
+                (subst (λ l. Each IsCase e.0 d.0 l) (f.1 ∙ on _ (g.1 ∙ on _ (i.1 ∙ on _ (j.2 ∙ on _ (on _ k.1))))) e.2)), k.2)
+
+one_statement : (S : Symbols) (ts : List Token) → accepts (statements ∷ S) ts ≡ true → (accepts S ts ≡ true) ⊎ OneIn IsStatement (statements ∷ S) ts
+one_statement S [] h = inl h
+one_statement S (name w ∷ ts) h = inr (named_in (statements ∷ S) w ts h)
+one_statement S (keyword goto_ ∷ ts) h =
+    let a = jump_in (statements ∷ S) ts h in
+    inr (Goto (word a.0), a.1, subst (λ l. IsStatement (Goto (word a.0)) (keyword goto_ ∷ l) a.1) (sym a.2) goto, a.3)
+one_statement S (keyword if_ ∷ ts) h = inr (if_in (statements ∷ S) ts h)
+one_statement S (keyword switch_ ∷ ts) h = inr (switch_in (statements ∷ S) ts h)
+one_statement S (keyword return_ ∷ ts) h =
+    let a = mark_in semicolon (statements ∷ S) ts h in
+    inr (Return, a.0, subst (λ l. IsStatement Return (keyword return_ ∷ l) a.0) (sym a.1) return, a.2)
+one_statement S (keyword _ ∷ ts) h = inl h
+one_statement S (_ ∷ ts) h = inl h
+
+statements_in : (S : Symbols) (ts : List Token) → accepts (statements ∷ S) ts ≡ true
+    → (b : List CStmt) × (us : List Token) × Each IsStatement b ts us × (accepts S us ≡ true)
+statements_in S ts h = each_in IsStatement statements statement_shrinks one_statement (length ts) S ts (omega arith) h
+
+-- a member, behind its type
+member_rest_in : (S : Symbols) (kind : CType) (m : List ℕ) (ts us : List Token) → IsType kind ts (name m ∷ us) → accepts (member_rest ∷ S) us ≡ true
+    → OneIn IsMember S ts
+member_rest_in S kind m ts [] p h = no h
+member_rest_in S kind m ts (mark semicolon ∷ us) p h = (record { kind = kind; name = word m; size = None }, us, single p, h)
+member_rest_in S kind m ts (mark open_square ∷ us) p h =
+    let a = size_in (a_mark close_square ∷ a_mark semicolon ∷ S) us h in
+    let b = mark_in close_square (a_mark semicolon ∷ S) a.1 a.5 in
+    let c = mark_in semicolon S b.0 b.2 in
+    (record { kind = kind; name = word m; size = Some a.0 }, c.0,
+        array a.3 a.4 (subst (λ l. IsType kind ts (name m ∷ l)) (on _ (a.2 ∙ on _ (b.1 ∙ on _ c.1))) p), c.2)
+member_rest_in S kind m ts (mark _ ∷ us) p h = no h
+member_rest_in S kind m ts (_ ∷ us) p h = no h
+
+typed_member : (S : Symbols) (kind : CType) (ts us : List Token) → IsType kind ts us → accepts (a_name ∷ member_rest ∷ S) us ≡ true → OneIn IsMember S ts
+typed_member S kind ts us p h =
+    let a = name_in (member_rest ∷ S) us h in member_rest_in S kind a.0 ts a.1 (subst (λ l. IsType kind ts l) a.2 p) a.3
+
+first_member_in : (S : Symbols) (ts : List Token) → accepts (a_member ∷ S) ts ≡ true → OneIn IsMember S ts
+first_member_in S [] h = no h
+first_member_in S (name s ∷ ts) h = typed_member S (Struct (word s)) (name s ∷ ts) ts struct_type h
+first_member_in S (keyword int64_t ∷ ts) h = typed_member S Int64 (keyword int64_t ∷ ts) ts number_type h
+first_member_in S (keyword _ ∷ ts) h = no h
+first_member_in S (_ ∷ ts) h = no h
+
+one_member : (S : Symbols) (ts : List Token) → accepts (members ∷ S) ts ≡ true → (accepts S ts ≡ true) ⊎ OneIn IsMember (members ∷ S) ts
+one_member S [] h = inl h
+one_member S (name s ∷ ts) h = inr (typed_member (members ∷ S) (Struct (word s)) (name s ∷ ts) ts struct_type h)
+one_member S (keyword int64_t ∷ ts) h = inr (typed_member (members ∷ S) Int64 (keyword int64_t ∷ ts) ts number_type h)
+one_member S (keyword _ ∷ ts) h = inl h
+one_member S (_ ∷ ts) h = inl h
+
+struct_in : (S : Symbols) (ts : List Token)
+    → accepts (a_keyword struct_ ∷ a_mark open_brace ∷ a_member ∷ members ∷ a_mark close_brace ∷ jump_rest S) ts ≡ true
+    → OneIn IsStruct S (keyword typedef_ ∷ ts)
+struct_in S ts h =
+    let a = keyword_in struct_ _ ts h in
+    let b = mark_in open_brace _ a.0 a.2 in
+    let c = first_member_in (members ∷ a_mark close_brace ∷ jump_rest S) b.0 b.2 in
+    let d = each_in IsMember members member_shrinks one_member (length c.1) (a_mark close_brace ∷ jump_rest S) c.1 (omega arith) c.3 in
+    let e = mark_in close_brace (jump_rest S) d.1 d.3 in
+    let f = jump_in S e.0 e.2 in
+    let s : CStruct = record { name = word f.0; members = c.0 ∷ d.0 } in
+    (s, f.1, subst (λ l. IsStruct s (keyword typedef_ ∷ l) f.1) (sym (a.1 ∙ on _ b.1))
+        (structure (subst (λ l. Each IsMember (c.0 ∷ d.0) b.0 l) (e.1 ∙ on _ f.2) (one_more c.2 d.2))), f.3)
+
+one_struct : (S : Symbols) (ts : List Token) → accepts (structs ∷ S) ts ≡ true → (accepts S ts ≡ true) ⊎ OneIn IsStruct (structs ∷ S) ts
+one_struct S [] h = inl h
+one_struct S (keyword typedef_ ∷ ts) h = inr (struct_in (structs ∷ S) ts h)
+one_struct S (keyword _ ∷ ts) h = inl h
+one_struct S (_ ∷ ts) h = inl h
+
+global_in : (S : Symbols) (kind : CType) (ts us : List Token) → IsType kind ts us → accepts (jump_rest S) us ≡ true → OneIn IsGlobal S ts
+global_in S kind ts us p h =
+    let a = jump_in S us h in (record { kind = kind; name = word a.0 }, a.1, global (subst (λ l. IsType kind ts l) a.2 p), a.3)
+
+one_global : (S : Symbols) (ts : List Token) → accepts (globals ∷ S) ts ≡ true → (accepts S ts ≡ true) ⊎ OneIn IsGlobal (globals ∷ S) ts
+one_global S [] h = inl h
+one_global S (name s ∷ ts) h = inr (global_in (globals ∷ S) (Struct (word s)) (name s ∷ ts) ts struct_type h)
+one_global S (keyword int64_t ∷ ts) h = inr (global_in (globals ∷ S) Int64 (keyword int64_t ∷ ts) ts number_type h)
+one_global S (keyword _ ∷ ts) h = inl h
+one_global S (_ ∷ ts) h = inl h
+
+-- behind the first word of an event or a function
+head_in : (S : Symbols) (ts : List Token) → accepts (head S) ts ≡ true
+    → (w : List ℕ) × (us : List Token) × (ts ≡ name w ∷ mark open_round ∷ keyword void_ ∷ mark close_round ∷ us) × (accepts S us ≡ true)
+head_in S ts h =
+    let a = name_in (a_mark open_round ∷ a_keyword void_ ∷ a_mark close_round ∷ S) ts h in
+    let b = mark_in open_round (a_keyword void_ ∷ a_mark close_round ∷ S) a.1 a.3 in
+    let c = keyword_in void_ (a_mark close_round ∷ S) b.0 b.2 in
+    let d = mark_in close_round S c.0 c.2 in
+    (a.0, d.0, a.2 ∙ on _ (b.1 ∙ on _ (c.1 ∙ on _ d.1)), d.2)
+
+-- a function, from its brace on
+body_in : (S : Symbols) (w : List ℕ) (ts us : List Token) → ts ≡ name w ∷ mark open_round ∷ keyword void_ ∷ mark close_round ∷ mark open_brace ∷ us
+    → accepts (statements ∷ a_mark close_brace ∷ S) us ≡ true → OneIn IsFunction S (keyword void_ ∷ ts)
+body_in S w ts us e h =
+    let a = statements_in (a_mark close_brace ∷ S) us h in
+    let b = mark_in close_brace S a.1 a.3 in
+    let f : CFunction = record { name = word w; body = a.0 } in
+    (f, b.0, subst (λ l. IsFunction f (keyword void_ ∷ l) b.0) (sym e) (function (subst (λ l. Each IsStatement a.0 us l) b.1 a.2)), b.2)
+
+one_function : (S : Symbols) (ts : List Token) → accepts (functions ∷ S) ts ≡ true → (accepts S ts ≡ true) ⊎ OneIn IsFunction (functions ∷ S) ts
+one_function S [] h = inl h
+one_function S (keyword void_ ∷ ts) h = inr (body_in (functions ∷ S) a.0 ts b.0 (a.2 ∙ on _ (on _ (on _ (on _ b.1)))) b.2)
+  where
+    a : (w : List ℕ) × (us : List Token) × (ts ≡ name w ∷ mark open_round ∷ keyword void_ ∷ mark close_round ∷ us)
+        × (accepts (a_mark open_brace ∷ statements ∷ a_mark close_brace ∷ functions ∷ S) us ≡ true)
+    a = head_in (a_mark open_brace ∷ statements ∷ a_mark close_brace ∷ functions ∷ S) ts h
+    b : (us : List Token) × (a.1 ≡ mark open_brace ∷ us) × (accepts (statements ∷ a_mark close_brace ∷ functions ∷ S) us ≡ true)
+    b = mark_in open_brace (statements ∷ a_mark close_brace ∷ functions ∷ S) a.1 a.3
+one_function S (keyword _ ∷ ts) h = inl h
+one_function S (_ ∷ ts) h = inl h
+
+end_in : (ts : List Token) → accepts [] ts ≡ true → ts ≡ []
+end_in [] h = refl
+end_in (u ∷ us) h = no h
+
+functions_in : (ts : List Token) → accepts (functions ∷ []) ts ≡ true → (fs : List CFunction) × Each IsFunction fs ts []
+functions_in ts h =
+    let a = each_in IsFunction functions function_shrinks one_function (length ts) [] ts (omega arith) h in
+    (a.0, subst (λ l. Each IsFunction a.0 ts l) (end_in a.1 a.3) a.2)
+
+abbrev DeclaredIn : List Token → Type 0
+DeclaredIn ts = (es : List Word) × (fs : List CFunction) × (us : List Token) × Each IsEvent es ts us × Each IsFunction fs us []
+
+-- behind the head: the rest of an event and what follows it, or of a function
+head_rest_in : (w : List ℕ) (ts vs : List Token) → ts ≡ name w ∷ mark open_round ∷ keyword void_ ∷ mark close_round ∷ vs
+    → accepts (head_rest ∷ []) vs ≡ true → ((us : List Token) → length us < length vs → accepts (declarations ∷ []) us ≡ true → DeclaredIn us)
+    → DeclaredIn (keyword void_ ∷ ts)
+head_rest_in w ts [] e h later = no h
+head_rest_in w ts (mark semicolon ∷ us) e h later =
+    let others = later us (omega arith) h in
+    (word w ∷ others.0, others.1, others.2, one_more (subst (λ l. IsEvent (word w) (keyword void_ ∷ l) us) (sym e) event) others.3, others.4)
+head_rest_in w ts (mark open_brace ∷ us) e h later =
+    let first = body_in (functions ∷ []) w ts us e h in
+    let others = functions_in first.1 first.3 in
+    ([], first.0 ∷ others.0, keyword void_ ∷ ts, none, one_more first.2 others.1)
+head_rest_in w ts (mark _ ∷ us) e h later = no h
+head_rest_in w ts (_ ∷ us) e h later = no h
+
+declared_in : (n : ℕ) (ts : List Token) → length ts ≤ n → accepts (declarations ∷ []) ts ≡ true → DeclaredIn ts
+declared_in n [] fits h = ([], [], [], none, none)
+declared_in zero (u ∷ us) fits h = absurd (omega (arith, fits))
+declared_in (suc n) (keyword void_ ∷ ts) fits h =
+    let a = head_in (head_rest ∷ []) ts h in
+    head_rest_in a.0 ts a.1 a.2 a.3 (λ us shorter k. declared_in n us (omega (arith, fits, shorter, ap (λ l. length l) a.2)) k)
+declared_in (suc n) (keyword _ ∷ ts) fits h = no h
+declared_in (suc n) (_ ∷ ts) fits h = no h
+
+-- the tokens that the recognizer accepts are the text of a program
+pub program_in : (ts : List Token) → accepts program_symbols ts ≡ true → (P : CProgram) × IsProgram P ts
+program_in ts h =
+    let a = each_in IsStruct structs struct_shrinks one_struct (length ts) (globals ∷ declarations ∷ []) ts (omega arith) h in
+    let b = each_in IsGlobal globals global_shrinks one_global (length a.1) (declarations ∷ []) a.1 (omega arith) a.3 in
+    let c = declared_in (length b.1) b.1 (omega arith) b.3 in
+    (record { structs = a.0; globals = b.0; events = c.0; functions = c.1 }, program a.2 b.2 c.3 c.4)
