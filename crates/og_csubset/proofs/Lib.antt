@@ -22,3 +22,4 @@ pub mod WellMade
 pub mod Recognizer
 pub mod Accepted
 pub mod Recognized
+pub mod Viable
