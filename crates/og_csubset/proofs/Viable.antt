@@ -237,3 +237,195 @@ fit_run S T (u ∷ us) e h = go (step S u) refl (λ U k q. fit_run U T us k q) e
         → and_goes_on o None (λ U. run U us) ≡ Some T → fit T ≡ true
     go None k later e = nothing T e
     go (Some U) k later e = later U e (fit_step S U u k h)
+
+-- a text of each symbol
+abbrev some_text : Symbol → List Token → List Token
+some_text (a_keyword k) rest = keyword k ∷ rest
+some_text (a_mark m) rest = mark m ∷ rest
+some_text a_sign rest = operator Sub ∷ rest
+some_text a_name rest = name (codes "x") ∷ rest
+some_text a_number rest = number 0 ∷ rest
+some_text (this_number m) rest = number m ∷ rest
+some_text a_size rest = number 1 ∷ rest
+some_text a_relation rest = relation Eq ∷ rest
+some_text a_sum rest = literal 0 rest
+some_text more rest = rest
+some_text an_operand rest = literal 0 rest
+some_text a_path rest = rest
+some_text bracket_rest rest = mark close_round ∷ rest
+some_text a_constant rest = literal 0 rest
+some_text cases rest = rest
+some_text named_rest rest = mark colon ∷ mark semicolon ∷ rest
+some_text statements rest = rest
+some_text member_rest rest = mark semicolon ∷ rest
+some_text a_member rest = keyword int64_t ∷ name (codes "x") ∷ mark semicolon ∷ rest
+some_text members rest = rest
+some_text structs rest = rest
+some_text globals rest = rest
+some_text head_rest rest = mark semicolon ∷ rest
+some_text declarations rest = rest
+some_text functions rest = rest
+
+abbrev finish : Symbols → List Token
+finish [] = []
+finish (X ∷ S) = some_text X (finish S)
+
+-- a repetition that ends is left out before what comes behind it
+skip_more : (S : Symbols) → fit (more ∷ S) ≡ true → accepts (more ∷ S) (finish S) ≡ accepts S (finish S)
+skip_more [] h = refl
+skip_more (a_mark m ∷ S) h = refl
+skip_more (bracket_rest ∷ S) h = refl
+skip_more (a_relation ∷ S) h = refl
+skip_more (_ ∷ S) h = no h
+
+-- a path ends where a number does
+path_close : (S : Symbols) → fit (more ∷ S) ≡ true → accepts (a_path ∷ more ∷ S) (finish S) ≡ accepts (more ∷ S) (finish S)
+path_close [] h = refl
+path_close (a_mark close_square ∷ S) h = refl
+path_close (a_mark close_round ∷ S) h = refl
+path_close (a_mark question ∷ S) h = refl
+path_close (a_mark colon ∷ S) h = refl
+path_close (a_mark semicolon ∷ S) h = refl
+path_close (a_mark open_brace ∷ S) h = no h
+path_close (a_mark close_brace ∷ S) h = no h
+path_close (a_mark open_square ∷ S) h = no h
+path_close (a_mark open_round ∷ S) h = no h
+path_close (a_mark dot ∷ S) h = no h
+path_close (a_mark equals ∷ S) h = no h
+path_close (bracket_rest ∷ S) h = refl
+path_close (a_relation ∷ S) h = refl
+path_close (_ ∷ S) h = no h
+
+skip_path : (S : Symbols) → fit (a_path ∷ S) ≡ true → accepts (a_path ∷ S) (finish S) ≡ accepts S (finish S)
+skip_path [] h = refl
+skip_path (more ∷ S) h = path_close S h
+skip_path (a_mark equals ∷ S) h = refl
+skip_path (a_mark open_brace ∷ S) h = no h
+skip_path (a_mark close_brace ∷ S) h = no h
+skip_path (a_mark open_square ∷ S) h = no h
+skip_path (a_mark close_square ∷ S) h = no h
+skip_path (a_mark open_round ∷ S) h = no h
+skip_path (a_mark close_round ∷ S) h = no h
+skip_path (a_mark semicolon ∷ S) h = no h
+skip_path (a_mark colon ∷ S) h = no h
+skip_path (a_mark question ∷ S) h = no h
+skip_path (a_mark dot ∷ S) h = no h
+skip_path (_ ∷ S) h = no h
+
+skip_cases : (S : Symbols) → fit (cases ∷ S) ≡ true → accepts (cases ∷ S) (finish S) ≡ accepts S (finish S)
+skip_cases [] h = refl
+skip_cases (a_keyword default_ ∷ S) h = refl
+skip_cases (a_keyword _ ∷ S) h = no h
+skip_cases (_ ∷ S) h = no h
+
+skip_statements : (S : Symbols) → fit (statements ∷ S) ≡ true → accepts (statements ∷ S) (finish S) ≡ accepts S (finish S)
+skip_statements [] h = refl
+skip_statements (a_mark close_brace ∷ S) h = refl
+skip_statements (a_mark _ ∷ S) h = no h
+skip_statements (_ ∷ S) h = no h
+
+skip_members : (S : Symbols) → fit (members ∷ S) ≡ true → accepts (members ∷ S) (finish S) ≡ accepts S (finish S)
+skip_members [] h = refl
+skip_members (a_mark close_brace ∷ S) h = refl
+skip_members (a_mark _ ∷ S) h = no h
+skip_members (_ ∷ S) h = no h
+
+skip_functions : (S : Symbols) → fit (functions ∷ S) ≡ true → accepts (functions ∷ S) (finish S) ≡ accepts S (finish S)
+skip_functions [] h = refl
+skip_functions (_ ∷ S) h = no h
+
+skip_declarations : (S : Symbols) → fit (declarations ∷ S) ≡ true → accepts (declarations ∷ S) (finish S) ≡ accepts S (finish S)
+skip_declarations [] h = refl
+skip_declarations (_ ∷ S) h = no h
+
+skip_globals : (S : Symbols) → fit (globals ∷ S) ≡ true → accepts (globals ∷ S) (finish S) ≡ accepts S (finish S)
+skip_globals [] h = refl
+skip_globals (declarations ∷ []) h = refl
+skip_globals (declarations ∷ Y ∷ S) h = no h
+skip_globals (_ ∷ S) h = no h
+
+skip_structs : (S : Symbols) → fit (structs ∷ S) ≡ true → accepts (structs ∷ S) (finish S) ≡ accepts S (finish S)
+skip_structs [] h = refl
+skip_structs (globals ∷ []) h = refl
+skip_structs (globals ∷ declarations ∷ []) h = refl
+skip_structs (globals ∷ declarations ∷ Y ∷ S) h = no h
+skip_structs (globals ∷ _ ∷ S) h = no h
+skip_structs (_ ∷ S) h = no h
+
+mark_itself : (m : Mark) → (mark_number m == mark_number m) ≡ true
+mark_itself m = eq-eqb (mark_number m) (mark_number m) refl
+
+-- symbols that fit have a text
+finished : (S : Symbols) → fit S ≡ true → accepts S (finish S) ≡ true
+finished [] h = refl
+finished (a_keyword k ∷ S) h = rw (eq-eqb (keyword_number k) (keyword_number k) refl) (finished S (fit_rest (a_keyword k) S h))
+finished (a_mark m ∷ S) h = rw (mark_itself m) (finished S (fit_rest (a_mark m) S h))
+finished (a_sign ∷ S) h = finished S (fit_rest a_sign S h)
+finished (a_name ∷ S) h = finished S (fit_rest a_name S h)
+finished (a_number ∷ S) h = finished S (fit_rest a_number S h)
+finished (this_number m ∷ S) h = rw (eq-eqb m m refl) (finished S (fit_rest (this_number m) S h))
+finished (a_size ∷ S) h = finished S (fit_rest a_size S h)
+finished (a_relation ∷ S) h = finished S (fit_rest a_relation S h)
+finished (a_sum ∷ S) h = skip_more S (sum_more S h) ∙ finished S (fit_rest a_sum S h)
+finished (more ∷ S) h = skip_more S h ∙ finished S (fit_rest more S h)
+finished (an_operand ∷ S) h = finished S (fit_rest an_operand S h)
+finished (a_path ∷ S) h = skip_path S h ∙ finished S (fit_rest a_path S h)
+finished (bracket_rest ∷ S) h = finished S (fit_rest bracket_rest S h)
+finished (a_constant ∷ S) h = finished S (fit_rest a_constant S h)
+finished (cases ∷ S) h = skip_cases S h ∙ finished S (fit_rest cases S h)
+finished (named_rest ∷ S) h = finished S (fit_rest named_rest S h)
+finished (statements ∷ S) h = skip_statements S h ∙ finished S (fit_rest statements S h)
+finished (member_rest ∷ S) h = finished S (fit_rest member_rest S h)
+finished (a_member ∷ S) h = finished S (fit_rest a_member S h)
+finished (members ∷ S) h = skip_members S h ∙ finished S (fit_rest members S h)
+finished (structs ∷ S) h = skip_structs S h ∙ finished S (fit_rest structs S h)
+finished (globals ∷ S) h = skip_globals S h ∙ finished S (fit_rest globals S h)
+finished (head_rest ∷ S) h = skip_declarations S (head_declarations S h) ∙ finished S (fit_rest head_rest S h)
+finished (declarations ∷ S) h = skip_declarations S h ∙ finished S (fit_rest declarations S h)
+finished (functions ∷ S) h = skip_functions S h ∙ finished S (fit_rest functions S h)
+
+-- what is accepted behind tokens that were taken
+pub run-accepts : (S T : Symbols) (ts us : List Token) → run S ts ≡ Some T → accepts S (ts ++ us) ≡ accepts T us
+run-accepts S T [] us e = ap (λ U. accepts U us) (Some-same S T e)
+run-accepts S T (u ∷ ts) us e = go (step S u) refl (λ U k. run-accepts U T ts us k) e
+  where
+    go : (o : Option Symbols) → step S u ≡ o → ((U : Symbols) → run U ts ≡ Some T → accepts U (ts ++ us) ≡ accepts T us)
+        → and_goes_on o None (λ U. run U ts) ≡ Some T → and_goes_on o false (λ U. accepts U (ts ++ us)) ≡ accepts T us
+    go None k later e = nothing T e
+    go (Some U) k later e = later U e
+
+-- a program begins with the tokens that the recognizer has taken
+pub viable : (S : Symbols) (ts : List Token) → run program_symbols ts ≡ Some S → BeginsProgram ts
+viable S ts e =
+    let fits = fit_run program_symbols S ts e refl in
+    let found = program_in (ts ++ finish S) (run-accepts program_symbols S ts (finish S) e ∙ finished S fits) in
+    (found.0, finish S, found.1)
+
+-- and none with one more that it refuses
+pub refused_next : (S : Symbols) (ts : List Token) (u : Token) → run program_symbols ts ≡ Some S → step S u ≡ None → BeginsProgram (ts ++ u ∷ []) → ⊥
+refused_next S ts u e none h =
+    let accepted : accepts program_symbols (ts ++ u ∷ h.1) ≡ true = ap (accepts program_symbols) (sym (regroup ts u h.1)) ∙ program_accepted h.2 in
+    let refused : accepts S (u ∷ h.1) ≡ false = rw none in
+    true≢false (sym accepted ∙ (run-accepts program_symbols S ts (u ∷ h.1) e ∙ refused))
+  where
+    regroup : (a : List Token) (x : Token) (b : List Token) → (a ++ x ∷ []) ++ b ≡ a ++ x ∷ b
+    regroup a x b = simp append_assoc
+
+-- the tokens are a program exactly where nothing more needs to come
+pub ended_program : (S : Symbols) (ts : List Token) → run program_symbols ts ≡ Some S → may_end S ≡ true → (P : CProgram) × IsProgram P ts
+ended_program S ts e h =
+    program_in ts (ap (accepts program_symbols) (sym (append-nil ts)) ∙ (run-accepts program_symbols S ts [] e ∙ h))
+
+pub no_program : (S : Symbols) (ts : List Token) → run program_symbols ts ≡ Some S → may_end S ≡ false → (P : CProgram) → IsProgram P ts → ⊥
+no_program S ts e h P p =
+    true≢false (sym (program_accepted p) ∙ (ap (accepts program_symbols) (sym (append-nil ts)) ∙ (run-accepts program_symbols S ts [] e ∙ h)))
+
+-- one token more
+pub run-more : (S T U : Symbols) (ts : List Token) (u : Token) → run S ts ≡ Some T → step T u ≡ Some U → run S (ts ++ u ∷ []) ≡ Some U
+run-more S T U [] u e k = subst (λ V. and_goes_on (step V u) None (λ W. run W []) ≡ Some U) (sym (Some-same S T e)) (rw k)
+run-more S T U (v ∷ ts) u e k = go (step S v) refl (λ V q. run-more V T U ts u q k) e
+  where
+    go : (o : Option Symbols) → step S v ≡ o → ((V : Symbols) → run V ts ≡ Some T → run V (ts ++ u ∷ []) ≡ Some U)
+        → and_goes_on o None (λ V. run V ts) ≡ Some T → and_goes_on o None (λ V. run V (ts ++ u ∷ [])) ≡ Some U
+    go None q later e = nothing T e
+    go (Some V) q later e = later V e
