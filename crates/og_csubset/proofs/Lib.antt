@@ -23,3 +23,4 @@ pub mod Recognizer
 pub mod Accepted
 pub mod Recognized
 pub mod Viable
+pub mod Judged
