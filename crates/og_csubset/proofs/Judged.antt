@@ -22,7 +22,7 @@ cuts_more (t ∷ ts) bytes rest more u c b = (c.0, c.1, cuts_more ts c.0 rest mo
 regroup : (a b c d : List ℕ) → a ++ (b ++ (c ++ d)) ≡ (a ++ (b ++ c)) ++ d
 regroup a b c d = simp append_assoc
 
-cuts_bytes : (ts : List Token) (bytes rest : List ℕ) → Cuts ts bytes rest → (w : List ℕ) × (bytes ≡ w ++ rest)
+pub cuts_bytes : (ts : List Token) (bytes rest : List ℕ) → Cuts ts bytes rest → (w : List ℕ) × (bytes ≡ w ++ rest)
 cuts_bytes [] bytes rest c = ([], c)
 cuts_bytes (t ∷ ts) bytes rest c =
     let others = cuts_bytes ts c.0 rest c.2 in

@@ -24,3 +24,4 @@ pub mod Accepted
 pub mod Recognized
 pub mod Viable
 pub mod Judged
+pub mod OneAnswer

@@ -47,7 +47,7 @@ lex_sound (suc f) bytes ts h = go (λ rest us. lex_sound f rest us) (list_all is
         let rest = later p.1 others.0 others.1 in
         subst (λ l. Lexes l bytes) others.2 (rest.0, (p.1, begins-next bytes p.0 p.1 k, rest.1), rest.2)
 
-some_byte : (t : Token) → IsToken t → 0 < length (spelling t)
+pub some_byte : (t : Token) → IsToken t → 0 < length (spelling t)
 unfolding first_token
 some_byte t is = go (spelling t) refl
   where

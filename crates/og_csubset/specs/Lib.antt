@@ -15,3 +15,4 @@ pub mod FlatExamples
 pub mod Texts
 pub mod Plain
 pub mod Wrong
+pub mod Refusals
