@@ -14,5 +14,6 @@ pub mod Examples
 pub mod FlatExamples
 pub mod Texts
 pub mod Plain
+pub mod Extension
 pub mod Wrong
 pub mod Refusals

@@ -14,7 +14,7 @@ pub use spelling_laws::{
 use sqlite_items::{Boxed, Items};
 pub use flat_examples::flat_code_runs;
 pub use run_examples::{hand_written_text_runs, load_rules_are_reported, single_statements_compute};
-pub use run_laws::{agreeing_programs_show_the_same, code_within_64_bits, ended_program_stays, more_instructions_go_on, more_statements_go_on, statements_split, values_of_parts};
+pub use run_laws::{agreeing_programs_show_the_same, code_within_64_bits, ended_program_stays, larger_models_show_the_same, more_instructions_go_on, more_statements_go_on, statements_split, values_of_parts};
 
 /// A program: structs, then globals, then the events that it may show, then functions.
 #[derive(Drop)]

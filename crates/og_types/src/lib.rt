@@ -3,6 +3,8 @@
 
 ghost use Rattle.std.specs.Prelude.{◌≡◌, []};
 
+pub mod laws;
+
 use og_names::NameId;
 use sqlite_items::{Boxed, Items};
 use std::alloc::Global;
