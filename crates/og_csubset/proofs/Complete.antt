@@ -43,14 +43,14 @@ level (operator op ∷ ts) = operator_level op
 level (mark m ∷ ts) = mark_level m
 level (_ ∷ ts) = 3
 
-level_sum : (op : COp) → is_sum op ≡ true → operator_level op ≡ 2
+pub level_sum : (op : COp) → is_sum op ≡ true → operator_level op ≡ 2
 level_sum Add h = refl
 level_sum Sub h = refl
 level_sum Mul h = absurd (true≢false (sym h))
 level_sum Div h = absurd (true≢false (sym h))
 level_sum Rem h = absurd (true≢false (sym h))
 
-level_product : (op : COp) → is_product op ≡ true → operator_level op ≡ 1
+pub level_product : (op : COp) → is_product op ≡ true → operator_level op ≡ 1
 level_product Add h = absurd (true≢false (sym h))
 level_product Sub h = absurd (true≢false (sym h))
 level_product Mul h = refl
@@ -59,7 +59,7 @@ level_product Rem h = refl
 
 -- each text takes tokens
 mutual
-  sum_shrinks : {e : CExpr} {ts rest : List Token} → IsSum e ts rest → length rest < length ts
+  pub sum_shrinks : {e : CExpr} {ts rest : List Token} → IsSum e ts rest → length rest < length ts
   sum_shrinks (sum p more) = omega (arith, product_shrinks p, sum_rest_shrinks more)
 
   sum_rest_shrinks : {a e : CExpr} {ts rest : List Token} → SumGoesOn a e ts rest → length rest ≤ length ts
@@ -73,7 +73,7 @@ mutual
   product_rest_shrinks product_ends = omega arith
   product_rest_shrinks (multiply is p more) = omega (arith, signed_shrinks p, product_rest_shrinks more)
 
-  signed_shrinks : {e : CExpr} {ts rest : List Token} → IsSigned e ts rest → length rest < length ts
+  pub signed_shrinks : {e : CExpr} {ts rest : List Token} → IsSigned e ts rest → length rest < length ts
   signed_shrinks positive = omega arith
   signed_shrinks negative = omega arith
   signed_shrinks minus_zero = omega arith
@@ -89,10 +89,10 @@ mutual
   test_shrinks : {t : CTest} {ts rest : List Token} → IsTest t ts rest → length rest < length ts
   test_shrinks (test p q) = omega (arith, sum_shrinks p, sum_shrinks q)
 
-  place_shrinks : {p : CPlace} {ts rest : List Token} → IsPlace p ts rest → length rest < length ts
+  pub place_shrinks : {p : CPlace} {ts rest : List Token} → IsPlace p ts rest → length rest < length ts
   place_shrinks (place p) = omega (arith, path_shrinks p)
 
-  path_shrinks : {steps : List CStep} {ts rest : List Token} → IsPath steps ts rest → length rest ≤ length ts
+  pub path_shrinks : {steps : List CStep} {ts rest : List Token} → IsPath steps ts rest → length rest ≤ length ts
   path_shrinks path_ends = omega arith
   path_shrinks (member p) = omega (arith, path_shrinks p)
   path_shrinks (index e p) = omega (arith, sum_shrinks e, path_shrinks p)
@@ -265,11 +265,11 @@ not_least_test d a op ts us h fits more same = go d (subst (λ l. number_at d l 
         let clash : mark close_round ≡ relation op = ap (λ o. behind o (mark dot)) (sym (least_sum (suc k) k more) ∙ e) in cc
 
 -- the levels at the ends of the parts
-sum_rest_level : {a e : CExpr} {ts rest : List Token} → SumGoesOn a e ts rest → level rest ≡ 3 → 1 < level ts
+pub sum_rest_level : {a e : CExpr} {ts rest : List Token} → SumGoesOn a e ts rest → level rest ≡ 3 → 1 < level ts
 sum_rest_level sum_ends h = omega arith
 sum_rest_level (add {op} is p more) h = omega (arith, level_sum op is)
 
-product_rest_level : {a e : CExpr} {ts rest : List Token} → ProductGoesOn a e ts rest → 1 < level rest → 0 < level ts
+pub product_rest_level : {a e : CExpr} {ts rest : List Token} → ProductGoesOn a e ts rest → 1 < level rest → 0 < level ts
 product_rest_level product_ends h = omega arith
 product_rest_level (multiply {op} is p more) h = omega (arith, level_product op is)
 
@@ -366,12 +366,12 @@ module _ {A : Type 0} (Is : A → List Token → List Token → Type 0) (one : R
       let shorter = shrinks _ _ _ p in
       rw (finds _ _ _ p fits, each_complete more f ends (omega arith) (omega arith))
 
-each_shrinks : {A : Type 0} {Is : A → List Token → List Token → Type 0} {xs : List A} {ts rest : List Token}
+pub each_shrinks : {A : Type 0} {Is : A → List Token → List Token → Type 0} {xs : List A} {ts rest : List Token}
     → ((x : A) (us vs : List Token) → Is x us vs → length vs < length us) → Each Is xs ts rest → length rest ≤ length ts
 each_shrinks h none = omega arith
 each_shrinks h (one_more p more) = omega (arith, h _ _ _ p, each_shrinks h more)
 
-constant_shrinks : {z : ℤ} {ts rest : List Token} → IsConstant z ts rest → length rest < length ts
+pub constant_shrinks : {z : ℤ} {ts rest : List Token} → IsConstant z ts rest → length rest < length ts
 constant_shrinks constant = omega arith
 constant_shrinks negative_constant = omega arith
 constant_shrinks least_constant = omega arith
@@ -382,14 +382,14 @@ constant_complete constant = refl
 constant_complete negative_constant = refl
 constant_complete least_constant = refl
 
-case_shrinks : (c : CCase) (ts rest : List Token) → IsCase c ts rest → length rest < length ts
+pub case_shrinks : (c : CCase) (ts rest : List Token) → IsCase c ts rest → length rest < length ts
 case_shrinks c ts rest (case_goto p) = omega (arith, constant_shrinks p)
 
 case_complete : (c : CCase) (ts rest : List Token) → IsCase c ts rest → case_at ts ≡ Some (c, rest)
 unfolding case_at
 case_complete c ts rest (case_goto p) = rw (constant_complete p)
 
-statement_shrinks : (s : CStmt) (ts rest : List Token) → IsStatement s ts rest → length rest < length ts
+pub statement_shrinks : (s : CStmt) (ts rest : List Token) → IsStatement s ts rest → length rest < length ts
 statement_shrinks s ts rest (assign p e) = omega (arith, place_shrinks p, sum_shrinks e)
 statement_shrinks s ts rest (if_goto t) = omega (arith, test_shrinks t)
 statement_shrinks s ts rest goto = omega arith
@@ -421,7 +421,7 @@ statement_complete d s ts rest (switch e cases) fits =
 statement_complete d s ts rest call fits = refl
 statement_complete d s ts rest return fits = refl
 
-type_shrinks : {k : CType} {ts rest : List Token} → IsType k ts rest → length rest < length ts
+pub type_shrinks : {k : CType} {ts rest : List Token} → IsType k ts rest → length rest < length ts
 type_shrinks number_type = omega arith
 type_shrinks struct_type = omega arith
 
@@ -430,7 +430,7 @@ unfolding type_at
 type_complete number_type = refl
 type_complete struct_type = refl
 
-member_shrinks : (m : CMember) (ts rest : List Token) → IsMember m ts rest → length rest < length ts
+pub member_shrinks : (m : CMember) (ts rest : List Token) → IsMember m ts rest → length rest < length ts
 member_shrinks m ts rest (single k) = omega (arith, type_shrinks k)
 member_shrinks m ts rest (array low high k) = omega (arith, type_shrinks k)
 
@@ -439,7 +439,7 @@ unfolding member_at member_end
 member_complete m ts rest (single k) = rw (type_complete k)
 member_complete m ts rest (array {n} low high k) = rw (type_complete k, lt-ltb 0 n low, le-leb n 65536 high)
 
-struct_shrinks : (s : CStruct) (ts rest : List Token) → IsStruct s ts rest → length rest < length ts
+pub struct_shrinks : (s : CStruct) (ts rest : List Token) → IsStruct s ts rest → length rest < length ts
 struct_shrinks s ts rest (structure ms) = omega (arith, each_shrinks member_shrinks ms)
 
 struct_complete : (d : ℕ) (s : CStruct) (ts rest : List Token) → IsStruct s ts rest → length ts ≤ d → struct_at d ts ≡ Some (s, rest)
@@ -447,21 +447,21 @@ unfolding struct_at struct_end member_at type_at
 struct_complete d s ts rest (structure ms) fits =
     rw (each_complete IsMember member_at d member_shrinks (λ m us vs p within. member_complete m us vs p) ms d refl (omega arith) (omega arith))
 
-global_shrinks : (g : CGlobal) (ts rest : List Token) → IsGlobal g ts rest → length rest < length ts
+pub global_shrinks : (g : CGlobal) (ts rest : List Token) → IsGlobal g ts rest → length rest < length ts
 global_shrinks g ts rest (global k) = omega (arith, type_shrinks k)
 
 global_complete : (g : CGlobal) (ts rest : List Token) → IsGlobal g ts rest → global_at ts ≡ Some (g, rest)
 unfolding global_at
 global_complete g ts rest (global k) = rw (type_complete k)
 
-event_shrinks : (e : Word) (ts rest : List Token) → IsEvent e ts rest → length rest < length ts
+pub event_shrinks : (e : Word) (ts rest : List Token) → IsEvent e ts rest → length rest < length ts
 event_shrinks e ts rest event = omega arith
 
 event_complete : (e : Word) (ts rest : List Token) → IsEvent e ts rest → event_at ts ≡ Some (e, rest)
 unfolding event_at head_at
 event_complete e ts rest event = refl
 
-function_shrinks : (f : CFunction) (ts rest : List Token) → IsFunction f ts rest → length rest < length ts
+pub function_shrinks : (f : CFunction) (ts rest : List Token) → IsFunction f ts rest → length rest < length ts
 function_shrinks f ts rest (function body) = omega (arith, each_shrinks statement_shrinks body)
 
 function_complete : (d : ℕ) (f : CFunction) (ts rest : List Token) → IsFunction f ts rest → length ts ≤ d → function_at d ts ≡ Some (f, rest)

@@ -12,7 +12,7 @@ use Rattle.og_csubset.proofs.Lexing.{cut, StopsAt, keyword_of, word_token, numbe
 use Rattle.og_csubset.proofs.Seen.{nothing, Some-same, seen_cond}
 
 -- what the cut gives
-cut_joined : (p : ℕ → Bool) (bs : List ℕ) → bs ≡ (cut p bs).0 ++ (cut p bs).1
+pub cut_joined : (p : ℕ → Bool) (bs : List ℕ) → bs ≡ (cut p bs).0 ++ (cut p bs).1
 unfolding cut
 cut_joined p [] = refl
 cut_joined p (b ∷ bs) = go (p b) (cut_joined p bs)
@@ -22,7 +22,7 @@ cut_joined p (b ∷ bs) = go (p b) (cut_joined p bs)
     go true e = ap (λ l. b ∷ l) e
     go false e = refl
 
-cut_all : (p : ℕ → Bool) (bs : List ℕ) → list_all p (cut p bs).0 ≡ true
+pub cut_all : (p : ℕ → Bool) (bs : List ℕ) → list_all p (cut p bs).0 ≡ true
 unfolding cut
 cut_all p [] = refl
 cut_all p (b ∷ bs) = go (p b) refl (cut_all p bs)
@@ -31,7 +31,7 @@ cut_all p (b ∷ bs) = go (p b) refl (cut_all p bs)
     go true e more = and_from (p b) (list_all p (cut p bs).0) e more
     go false e more = refl
 
-cut_stops : (p : ℕ → Bool) (bs : List ℕ) → StopsAt p (cut p bs).1
+pub cut_stops : (p : ℕ → Bool) (bs : List ℕ) → StopsAt p (cut p bs).1
 unfolding cut
 cut_stops p [] = tt
 cut_stops p (b ∷ bs) = go (p b) refl (cut_stops p bs)

@@ -296,7 +296,7 @@ relation_space Le rest = refl
 relation_space Gt rest = refl
 relation_space Ge rest = refl
 
-no_space_first : (t : Token) (rest : List ℕ) → IsToken t → StopsAt is_space (spelling t ++ rest)
+pub no_space_first : (t : Token) (rest : List ℕ) → IsToken t → StopsAt is_space (spelling t ++ rest)
 no_space_first (name w) rest is = name_space w rest (and_parts (is_word w) (not (is_reserved w)) is).0
 no_space_first (number n) rest is = number_space n (decimal n) rest is refl
 no_space_first (operator op) rest is = operator_space op rest

@@ -23,3 +23,9 @@ pub mod WrongPlace
 pub mod WellMade
 pub mod Forms
 pub mod Steady
+pub mod Recognizer
+pub mod Accepted
+pub mod Recognized
+pub mod Viable
+pub mod Judged
+pub mod OneAnswer

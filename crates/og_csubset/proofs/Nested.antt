@@ -7,21 +7,21 @@ use Rattle.og_csubset.specs.Tokens.{Token, spelling, Begins, Cuts, HasTokens, fi
 use Rattle.og_csubset.specs.Nesting.{Nest, outermost, after_token, after_tokens, nesting_from, nesting, first_past_from, first_past, IsWithinNesting, PassesNesting}
 use Rattle.og_csubset.proofs.Lexing.{same_first, nothing_first}
 
-abbrev depth : Nest → ℕ
+abbrev pub depth : Nest → ℕ
 depth nest = nest.level.depth
 
-first_within : (limit : ℕ) (n : Nest) (t : Token) (ts : List Token) → nesting_from n (t ∷ ts) ≤ limit → depth (after_token t n) ≤ limit
+pub first_within : (limit : ℕ) (n : Nest) (t : Token) (ts : List Token) → nesting_from n (t ∷ ts) ≤ limit → depth (after_token t n) ≤ limit
 first_within limit n t ts h = le_trans (le-max_left (depth (after_token t n)) (nesting_from (after_token t n) ts)) h
 
-others_within : (limit : ℕ) (n : Nest) (t : Token) (ts : List Token) → nesting_from n (t ∷ ts) ≤ limit → nesting_from (after_token t n) ts ≤ limit
+pub others_within : (limit : ℕ) (n : Nest) (t : Token) (ts : List Token) → nesting_from n (t ∷ ts) ≤ limit → nesting_from (after_token t n) ts ≤ limit
 others_within limit n t ts h = le_trans (le-max_right (depth (after_token t n)) (nesting_from (after_token t n) ts)) h
 
 -- from a state on: these tokens stand before one that passes the limit first
-record Passes (limit : ℕ) (n : Nest) (body : List ℕ) (ts : List Token) (t : Token) (here rest : List ℕ) : Type 0 where
-  cuts : Cuts ts body here
-  begins : Begins here t rest
-  within : nesting_from n ts ≤ limit
-  past : limit < depth (after_tokens (ts ++ t ∷ []) n)
+pub record Passes (limit : ℕ) (n : Nest) (body : List ℕ) (ts : List Token) (t : Token) (here rest : List ℕ) : Type 0 where
+  pub cuts : Cuts ts body here
+  pub begins : Begins here t rest
+  pub within : nesting_from n ts ≤ limit
+  pub past : limit < depth (after_tokens (ts ++ t ∷ []) n)
 
 -- all that the place is made of
 record Same (here there : List ℕ) (t u : Token) (rest more : List ℕ) : Type 0 where
@@ -105,16 +105,16 @@ regroup : (a b c d : List ℕ) → a ++ (b ++ (c ++ d)) ≡ (a ++ (b ++ c)) ++ d
 regroup a b c d = simp append_assoc
 
 -- the way to the first token that passes
-record Way (limit : ℕ) (n : Nest) (body : List ℕ) : Type 0 where
-  tokens : List Token
-  token : Token
-  here : List ℕ
-  rest : List ℕ
-  bytes : List ℕ
-  joined : body ≡ bytes ++ here
-  goes : Passes limit n body tokens token here rest
+pub record Way (limit : ℕ) (n : Nest) (body : List ℕ) : Type 0 where
+  pub tokens : List Token
+  pub token : Token
+  pub here : List ℕ
+  pub rest : List ℕ
+  pub bytes : List ℕ
+  pub joined : body ≡ bytes ++ here
+  pub goes : Passes limit n body tokens token here rest
 
-way : (limit : ℕ) (n : Nest) (body end : List ℕ) (ts : List Token) → Cuts ts body end → limit < nesting_from n ts → Way limit n body
+pub way : (limit : ℕ) (n : Nest) (body end : List ℕ) (ts : List Token) → Cuts ts body end → limit < nesting_from n ts → Way limit n body
 way limit n body end [] c h = absurd (omega (arith, h))
 way limit n body end (t ∷ ts) c h = ⊎_elim at_once (later (λ more. way limit (after_token t n) c.0 end ts c.2 more)) (cases_lt limit (depth (after_token t n)))
   where
@@ -144,26 +144,29 @@ way limit n body end (t ∷ ts) c h = ⊎_elim at_once (later (λ more. way limi
           goes = record { cuts = (c.0, c.1, w.goes.cuts); begins = w.goes.begins; within = max-le within w.goes.within; past = w.goes.past };
         }
 
+-- tokens at the beginning of a text that pass the limit have a first one that does
+pub past_in : (limit : ℕ) (text body end : List ℕ) (tokens : List Token) → text ≡ first_line ++ body → Cuts tokens body end → limit < nesting tokens
+    → (before : List ℕ) × PassesNesting limit text before
+past_in limit text body end tokens starts cuts past =
+    let w = way limit outermost body end tokens cuts past in
+    let b = w.goes.begins in
+    (first_line ++ (w.bytes ++ b.space), record {
+      tokens = w.tokens;
+      token = w.token;
+      body = body;
+      here = w.here;
+      rest = w.rest;
+      starts = starts;
+      cuts = w.goes.cuts;
+      begins = b;
+      place = starts ∙ (ap (λ l. first_line ++ l) (w.joined ∙ ap (λ l. w.bytes ++ l) b.joined) ∙ regroup first_line w.bytes b.space (spelling w.token ++ w.rest));
+      within = w.goes.within;
+      past = w.goes.past;
+    })
+
 pub past_somewhere : (limit : ℕ) (text : List ℕ) (tokens : List Token) → HasTokens tokens text → limit < nesting tokens
     → (before : List ℕ) × PassesNesting limit text before
-past_somewhere limit text tokens h past =
-    let w = way limit outermost h.0 h.2.0 tokens h.2.1 past in
-    let b = w.goes.begins in (
-      first_line ++ (w.bytes ++ b.space),
-      record {
-        tokens = w.tokens;
-        token = w.token;
-        body = h.0;
-        here = w.here;
-        rest = w.rest;
-        starts = h.1;
-        cuts = w.goes.cuts;
-        begins = b;
-        place = h.1 ∙ (ap (λ l. first_line ++ l) (w.joined ∙ ap (λ l. w.bytes ++ l) b.joined) ∙ regroup first_line w.bytes b.space (spelling w.token ++ w.rest));
-        within = w.goes.within;
-        past = w.goes.past;
-      },
-    )
+past_somewhere limit text tokens h past = past_in limit text h.0 h.2.0 tokens h.1 h.2.1 past
 
 -- the first token that passes, counted
 first_past-none : (limit : ℕ) (n : Nest) (ts : List Token) → nesting_from n ts ≤ limit → first_past_from limit n ts ≡ None

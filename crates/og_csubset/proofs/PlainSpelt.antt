@@ -75,10 +75,10 @@ record Good (e : CExpr) (p : Piece) : Type 0 where
   inside : (rest : List Token) → IsOperand e (bracketed p rest) rest
   value : (z : ℤ) → p.value ≡ Some z → e ≡ Number z
 
-to_product : {e : CExpr} {ts rest : List Token} → IsSigned e ts rest → IsProduct e ts rest
+pub to_product : {e : CExpr} {ts rest : List Token} → IsSigned e ts rest → IsProduct e ts rest
 to_product h = product h product_ends
 
-to_sum : {e : CExpr} {ts rest : List Token} → IsProduct e ts rest → IsSum e ts rest
+pub to_sum : {e : CExpr} {ts rest : List Token} → IsProduct e ts rest → IsSum e ts rest
 to_sum h = sum h sum_ends
 
 operand_good : (e : CExpr) (text : Text) → ((rest : List Token) → IsOperand e (text rest) rest) → (e ≡ least_tree → ⊥) → Good e (piece 0 text None)
@@ -138,7 +138,7 @@ goes_on : {x a b : CExpr} {op : COp} {ts us rest : List Token} → SumGoesOn x a
 goes_on sum_ends is q = add is q sum_ends
 goes_on (add was p more) is q = add was p (goes_on more is q)
 
-sum_on : {a b : CExpr} {op : COp} {ts us rest : List Token} → IsSum a ts (operator op ∷ us) → IsTrue (is_sum op) → IsProduct b us rest
+pub sum_on : {a b : CExpr} {op : COp} {ts us rest : List Token} → IsSum a ts (operator op ∷ us) → IsTrue (is_sum op) → IsProduct b us rest
     → IsSum (Op op a b) ts rest
 sum_on (sum p more) is q = sum p (goes_on more is q)
 
@@ -147,7 +147,7 @@ product_goes_on : {x a b : CExpr} {op : COp} {ts us rest : List Token} → Produ
 product_goes_on product_ends is q = multiply is q product_ends
 product_goes_on (multiply was p more) is q = multiply was p (product_goes_on more is q)
 
-product_on : {a b : CExpr} {op : COp} {ts us rest : List Token} → IsProduct a ts (operator op ∷ us) → IsTrue (is_product op) → IsSigned b us rest
+pub product_on : {a b : CExpr} {op : COp} {ts us rest : List Token} → IsProduct a ts (operator op ∷ us) → IsTrue (is_product op) → IsSigned b us rest
     → IsProduct (Op op a b) ts rest
 product_on (product p more) is q = product p (product_goes_on more is q)
 

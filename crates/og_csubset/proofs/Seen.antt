@@ -35,7 +35,7 @@ mark_of_mark_number question = refl
 mark_of_mark_number dot = refl
 mark_of_mark_number equals = refl
 
-same_mark_number : (m k : Mark) → (mark_number m == mark_number k) ≡ true → m ≡ k
+pub same_mark_number : (m k : Mark) → (mark_number m == mark_number k) ≡ true → m ≡ k
 same_mark_number m k h = sym (mark_of_mark_number m) ∙ ap mark_of (eqb-true (mark_number m) (mark_number k) h) ∙ mark_of_mark_number k
 
 keyword_of : ℕ → Keyword
@@ -65,7 +65,7 @@ keyword_of_keyword_number return_ = refl
 keyword_of_keyword_number int64_t = refl
 keyword_of_keyword_number INT64_C = refl
 
-same_keyword_number : (m k : Keyword) → (keyword_number m == keyword_number k) ≡ true → m ≡ k
+pub same_keyword_number : (m k : Keyword) → (keyword_number m == keyword_number k) ≡ true → m ≡ k
 same_keyword_number m k h = sym (keyword_of_keyword_number m) ∙ ap keyword_of (eqb-true (keyword_number m) (keyword_number k) h) ∙ keyword_of_keyword_number k
 
 -- nothing is not something

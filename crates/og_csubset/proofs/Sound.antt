@@ -242,7 +242,7 @@ module _ {A : Type 0} (Is : A → List Token → List Token → Type 0) (one : R
       go later (Some p) e h = one_found later p e h
 
 -- one more token in front
-on : (t : Token) {us vs : List Token} → us ≡ vs → t ∷ us ≡ t ∷ vs
+pub on : (t : Token) {us vs : List Token} → us ≡ vs → t ∷ us ≡ t ∷ vs
 on t e = ap (λ l. t ∷ l) e
 
 constant_literal : (ts : List Token) (r : ℤ × List Token) → and_then (literal_at ts) (λ n rest. Some (pos n, rest)) ≡ Some r → IsConstant r.0 ts r.1

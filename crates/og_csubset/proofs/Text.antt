@@ -47,7 +47,7 @@ lex_sound (suc f) bytes ts h = go (λ rest us. lex_sound f rest us) (list_all is
         let rest = later p.1 others.0 others.1 in
         subst (λ l. Lexes l bytes) others.2 (rest.0, (p.1, begins-next bytes p.0 p.1 k, rest.1), rest.2)
 
-some_byte : (t : Token) → IsToken t → 0 < length (spelling t)
+pub some_byte : (t : Token) → IsToken t → 0 < length (spelling t)
 unfolding first_token
 some_byte t is = go (spelling t) refl
   where
@@ -58,7 +58,7 @@ some_byte t is = go (spelling t) refl
     go [] e = nothing (t, []) (sym (ap (λ l. first_token (l ++ [])) e) ∙ found)
     go (b ∷ bs) e = omega (arith, ap (λ l. length l) e)
 
-begins_shrinks : (bytes : List ℕ) (t : Token) (rest : List ℕ) → Begins bytes t rest → length rest < length bytes
+pub begins_shrinks : (bytes : List ℕ) (t : Token) (rest : List ℕ) → Begins bytes t rest → length rest < length bytes
 begins_shrinks bytes t rest h =
     let e : length bytes ≡ length (h.space ++ (spelling t ++ rest)) = ap (λ l. length l) h.joined in
     omega (arith, e, length-append h.space (spelling t ++ rest), length-append (spelling t) rest, some_byte t h.is_token)
@@ -85,7 +85,7 @@ behind [] bs = Some bs
 behind (p ∷ ps) [] = None
 behind (p ∷ ps) (b ∷ bs) = cond (p == b) (behind ps bs) None
 
-behind_sound : (ps bs rest : List ℕ) → behind ps bs ≡ Some rest → bs ≡ ps ++ rest
+pub behind_sound : (ps bs rest : List ℕ) → behind ps bs ≡ Some rest → bs ≡ ps ++ rest
 unfolding behind
 behind_sound [] bs rest h = Some-same bs rest h
 behind_sound (p ∷ ps) [] rest h = nothing rest h
@@ -95,7 +95,7 @@ behind_sound (p ∷ ps) (b ∷ bs) rest h = go (p == b) refl (behind_sound ps bs
     go true e later h = ap₂ (λ x xs. x ∷ xs) (sym (eqb-true p b e)) (later h)
     go false e later h = nothing rest h
 
-behind_complete : (ps rest : List ℕ) → behind ps (ps ++ rest) ≡ Some rest
+pub behind_complete : (ps rest : List ℕ) → behind ps (ps ++ rest) ≡ Some rest
 unfolding behind
 behind_complete [] rest = refl
 behind_complete (p ∷ ps) rest = rw (eq-eqb p p refl, behind_complete ps rest)

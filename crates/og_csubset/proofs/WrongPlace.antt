@@ -46,7 +46,7 @@ one_way before body (t ∷ ts) (u ∷ us) here there v w =
     (subst (λ b. Wrong (before ++ u ∷ []) b us there) (sym same.1) w') in
     one_way (before ++ t ∷ []) v.cuts.0 ts us here there (further before body t ts here v) w''
 
-stops : (here : List ℕ) → BeginsWithNoSpace here → StopsAt is_space here
+pub stops : (here : List ℕ) → BeginsWithNoSpace here → StopsAt is_space here
 stops [] h = tt
 stops (b ∷ bs) h = h
 

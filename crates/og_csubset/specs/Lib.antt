@@ -17,3 +17,4 @@ pub mod Plain
 pub mod Extension
 pub mod Wrong
 pub mod Forms
+pub mod Refusals
