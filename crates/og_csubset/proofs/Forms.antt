@@ -169,7 +169,6 @@ below_is size k z e =
     subst (λ (j : ℕ). j < size) test.1 less
 
 module _ (f : CExpr → Result ℤ Trouble) (num : CExpr → Bool) (d : ℕ) (good : (e : CExpr) → size-CExpr e ≤ d → num e ≡ true → Good (λ z. Unit {0}) (f e)) where
-
   pub walk_good : (structs : List CStruct) (steps : List CStep) (kind last : Kind) → most size-CStep steps ≤ d → kind_after num structs kind steps ≡ Some last → (whole : Cells) → HasForm structs whole (form_of structs kind) → Good (λ path. Found structs whole (form_of structs kind) path last) (walk f structs kind steps)
   walk_good structs [] kind last deep e whole h =
       subst (λ k. Found structs whole (form_of structs kind) [] k) (same_value kind last e) (found_whole structs whole kind h)
@@ -261,9 +260,7 @@ unsized_form structs (Some n) t u e = absurd (none-some u e)
 unsized_form structs None t u e = ap (form_of_type structs) (same_value t u e)
 
 module _ (program : CProgram) (values : List Cells) (formed : HaveForms program.structs program.globals values) where
-
   module _ (f : CExpr → Result ℤ Trouble) (num : CExpr → Bool) (d : ℕ) (good : (e : CExpr) → size-CExpr e ≤ d → num e ≡ true → Good (λ z. Unit {0}) (f e)) where
-
     pub spot_good : (place : CPlace) (t : CType) → size-CPlace place ≤ d → type_by num program place ≡ Some t → Good (FoundSpot program values t) (spot_by f program place)
     spot_good place t deep e =
         let kind = bound (global_kind program place.name.bytes) _ t e in

@@ -149,7 +149,7 @@ next_statements (keyword if_) =
     Some (a_mark open_round ∷ a_sum ∷ a_relation ∷ a_sum ∷ a_mark close_round ∷ a_keyword goto_ ∷ jump_rest (statements ∷ []))
 next_statements (keyword switch_) =
     Some (a_mark open_round ∷ a_sum ∷ a_mark close_round ∷ a_mark open_brace ∷ cases ∷ a_keyword default_ ∷ a_mark colon
-        ∷ a_keyword goto_ ∷ jump_rest (a_mark close_brace ∷ statements ∷ []))
+    ∷ a_keyword goto_ ∷ jump_rest (a_mark close_brace ∷ statements ∷ []))
 next_statements (keyword return_) = Some (a_mark semicolon ∷ statements ∷ [])
 next_statements _ = None
 

@@ -144,6 +144,7 @@ call_known names (g ∷ functions) (suc k) f h e p name c =
     own : (bytes_eq name.bytes g.name.bytes ≡ true) ⊎ (is_in name.bytes names ≡ true) → (is_in name.bytes names ≡ true) ⊎ (is_in name.bytes (map (λ (i : CFunction). i.name.bytes) (g ∷ functions)) ≡ true)
     own (inl same) = inr (or_first (bytes_eq name.bytes g.name.bytes) (is_in name.bytes (map (λ (i : CFunction). i.name.bytes) functions)) same)
     own (inr there) = inl there
+
     shifted : (is_in name.bytes (g.name.bytes ∷ names) ≡ true) ⊎ (is_in name.bytes (map (λ (i : CFunction). i.name.bytes) functions) ≡ true) → (is_in name.bytes names ≡ true) ⊎ (is_in name.bytes (map (λ (i : CFunction). i.name.bytes) (g ∷ functions)) ≡ true)
     shifted (inl there) = own (either (bytes_eq name.bytes g.name.bytes) (is_in name.bytes names) there)
     shifted (inr later) = inr (or_second (bytes_eq name.bytes g.name.bytes) (is_in name.bytes (map (λ (i : CFunction). i.name.bytes) functions)) later)
@@ -167,7 +168,6 @@ int_of_number : (b : Bool) (t : CType) → cond b (Some Int64) None ≡ Some t �
 int_of_number b t e = cond_some b Int64 t e
 
 module _ (program : CProgram) (values : List Cells) (formed : HaveForms program.structs program.globals values) where
-
   -- a number that is assigned is one cell
   one_cell : (e : CExpr) (t : CType) → cond (is_number program e) (Some Int64) None ≡ Some t → Good (λ c. HasForm program.structs c (form_of_type program.structs t)) (value_of program values e >>= λ z. Ok (Cell z))
   one_cell e t h =
@@ -205,9 +205,7 @@ pub record Kept (program : CProgram) : Type 0 where
   pub called : functions_known (event_names program) program.functions ≡ true
 
 module _ {E : Type 0} (program : CProgram) (kept : Kept program) (shows : List ℕ → List Cells → Option E) (shown : (name : List ℕ) (values : List Cells) → is_some (shows name values) ≡ true) where
-
   module _ (values : List Cells) (formed : HaveForms program.structs program.globals values) (frame : Frame) (callers : List Frame) (f : CFunction) (at : slice_get program.functions frame.function ≡ Some f) (calls : AllByRecursion (IsCall program) callers) where
-
     gone_steady : (label : List ℕ) → is_in label (labels_of f.body) ≡ true → IsSteady program (gone {E = E} f.body values frame callers label).config
     gone_steady label h =
         let there = label_there label f.body h in
@@ -302,9 +300,10 @@ sized_formed structs (Some n) t part h = equal_formed structs t part h n
 
 members_formed : (structs : List CStruct) (names : List (List ℕ)) (d : ℕ) → ((t : CType) → is_known names t ≡ true → HasForm structs (blank_within d structs t) (form_of_type structs t)) → (members : List CMember) → list_all (λ m. is_known names m.kind) members ≡ true → HasForm structs (row (map (λ (m : CMember). sized m.size (blank_within d structs m.kind)) members)) (Row (map kind_of_member members))
 members_formed structs names d blanks [] h = tt
-members_formed structs names d blanks (m ∷ members) h =
-    (sized_formed structs m.size m.kind (blank_within d structs m.kind) (blanks m.kind (left_of (is_known names m.kind) (list_all (λ m'. is_known names m'.kind) members) h)),
-     members_formed structs names d blanks members (right_of (is_known names m.kind) (list_all (λ m'. is_known names m'.kind) members) h))
+members_formed structs names d blanks (m ∷ members) h = (
+  sized_formed structs m.size m.kind (blank_within d structs m.kind) (blanks m.kind (left_of (is_known names m.kind) (list_all (λ m'. is_known names m'.kind) members) h)),
+  members_formed structs names d blanks members (right_of (is_known names m.kind) (list_all (λ m'. is_known names m'.kind) members) h),
+)
 
 -- a struct whose members are known is blank one level further
 struct_formed : (structs : List CStruct) (names : List (List ℕ)) (k d : ℕ) (name : Word) (members : List CMember) → k < d → members_of structs (Struct name) ≡ Some members → ((t : CType) → is_known names t ≡ true → IsBlank structs k t) → list_all (λ m. is_known names m.kind) members ≡ true → HasForm structs (blank_within (suc d) structs (Struct name)) (form_of_type structs (Struct name))
@@ -340,6 +339,7 @@ all_blank structs (s ∷ rest) names k h found blanks t known d less =
     split : (name : Word) → (bytes_eq name.bytes s.name.bytes ≡ true) ⊎ (is_in name.bytes (map (λ (x : CStruct). x.name.bytes) rest) ≡ true) → (is_known (s.name.bytes ∷ names) (Struct name) ≡ true) ⊎ (is_known (map (λ (x : CStruct). x.name.bytes) rest) (Struct name) ≡ true)
     split name (inl same) = inl (or_first (bytes_eq name.bytes s.name.bytes) (is_in name.bytes names) same)
     split name (inr later) = inr later
+
     shifted : (u : CType) → (is_known names u ≡ true) ⊎ (is_known (map (λ (x : CStruct). x.name.bytes) (s ∷ rest)) u ≡ true) → (is_known (s.name.bytes ∷ names) u ≡ true) ⊎ (is_known (map (λ (x : CStruct). x.name.bytes) rest) u ≡ true)
     shifted Int64 known' = inl refl
     shifted (Struct name) (inl there) = inl (or_second (bytes_eq name.bytes s.name.bytes) (is_in name.bytes names) there)
@@ -361,6 +361,7 @@ find_self (x ∷ structs) (suc i) s h e =
     later [] j e' = absurd (none-some s e')
     later (y ∷ list) zero e' = or_first _ _ ((bytes_eq-Decides s.name.bytes y.name.bytes).1 (ap (λ (z : CStruct). z.name.bytes) (sym (same_value y s e'))))
     later (y ∷ list) (suc j) e' = or_second (bytes_eq s.name.bytes y.name.bytes) (is_in s.name.bytes (map (λ (z : CStruct). z.name.bytes) list)) (later list j e')
+
     by_test : (b : Bool) → bytes_eq s.name.bytes x.name.bytes ≡ b → find (λ (y : CStruct). bytes_eq s.name.bytes y.name.bytes) structs ≡ Some s → find (λ (y : CStruct). bytes_eq s.name.bytes y.name.bytes) (x ∷ structs) ≡ Some s
     by_test true test among =
         let equal : s.name.bytes ≡ x.name.bytes = (bytes_eq-Decides s.name.bytes x.name.bytes).0 test in
@@ -406,9 +407,10 @@ passed program model h =
 
 globals_formed : (structs : List CStruct) (names : List (List ℕ)) → ((t : CType) → is_known names t ≡ true → HasForm structs (blank_type structs t) (form_of_type structs t)) → (globals : List CGlobal) → list_all (λ g. is_known names g.kind) globals ≡ true → HaveForms structs globals (map (λ (g : CGlobal). blank_type structs g.kind) globals)
 globals_formed structs names blanks [] h = tt
-globals_formed structs names blanks (g ∷ globals) h =
-    (blanks g.kind (left_of (is_known names g.kind) (list_all (λ g'. is_known names g'.kind) globals) h),
-     globals_formed structs names blanks globals (right_of (is_known names g.kind) (list_all (λ g'. is_known names g'.kind) globals) h))
+globals_formed structs names blanks (g ∷ globals) h = (
+  blanks g.kind (left_of (is_known names g.kind) (list_all (λ g'. is_known names g'.kind) globals) h),
+  globals_formed structs names blanks globals (right_of (is_known names g.kind) (list_all (λ g'. is_known names g'.kind) globals) h),
+)
 
 none_known : (structs : List CStruct) (t : CType) → is_known [] t ≡ true → IsBlank structs 0 t
 none_known structs Int64 known zero less = absurd (omega (arith, less))

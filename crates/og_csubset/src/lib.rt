@@ -1,11 +1,11 @@
 //! Programs of the C subset as trees.
 #![tactic(auto)]
 
+mod copy;
 mod flat_examples;
 mod run_examples;
 mod run_laws;
 mod spelling_laws;
-mod copy;
 
 pub use flat_examples::flat_code_runs;
 use og_names::Word;

@@ -1,9 +1,9 @@
 //! Flat code: functions of instructions over slots, with jumps by number. It is the middle of a compilation.
 #![tactic(auto)]
 
+mod copy;
 mod step_laws;
 mod value_laws;
-mod copy;
 
 use og_names::Word;
 use og_types::TypeId;

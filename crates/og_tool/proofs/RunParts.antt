@@ -71,17 +71,35 @@ usage_not told file was is old new before after answer = answer
 pub done_so : (words : List (List ℕ)) (told : Option Files) (file : List ℕ) (was is : ℕ) (old new : Option (List ℕ)) (before after : ℕ)
     → AsksForC words file → FileAnswer Done told file was is old new before after → WroteC words told old new
 done_so words told file was is old new before after asks answer = record {
-  file = file; bytes = answer.0; text = answer.2.0; asks = asks; read = answer.1; is_text = answer.2.1; wrote = answer.2.2;
+  file = file;
+  bytes = answer.0;
+  text = answer.2.0;
+  asks = asks;
+  read = answer.1;
+  is_text = answer.2.1;
+  wrote = answer.2.2;
 }
 
 pub refused_so : (words : List (List ℕ)) (told : Option Files) (file : List ℕ) (was is : ℕ) (old new : Option (List ℕ)) (before after : ℕ)
     → AsksForC words file → FileAnswer Refused told file was is old new before after → WroteReport words told old new
 refused_so words told file was is old new before after asks answer = record {
-  file = file; bytes = answer.0; line = answer.2.0; asks = asks; read = answer.1; is_report = answer.2.1; wrote = answer.2.2;
+  file = file;
+  bytes = answer.0;
+  line = answer.2.0;
+  asks = asks;
+  read = answer.1;
+  is_report = answer.2.1;
+  wrote = answer.2.2;
 }
 
 pub some_so : (words : List (List ℕ)) (told : Option Files) (file : List ℕ) (was is : ℕ) (old new : Option (List ℕ)) (before after : ℕ)
     → AsksForC words file → FileAnswer WriteFault told file was is old new before after → WroteSome words told old new
 some_so words told file was is old new before after asks answer = record {
-  file = file; bytes = answer.0; text = answer.2.1.0; asks = asks; read = answer.1; is_output = answer.2.1.1; wrote = answer.2.1.2;
+  file = file;
+  bytes = answer.0;
+  text = answer.2.1.0;
+  asks = asks;
+  read = answer.1;
+  is_output = answer.2.1.1;
+  wrote = answer.2.1.2;
 }

@@ -17,11 +17,12 @@ ends_so name back true long is same =
     let at = length name - 3 in
     let len : length (take at name) ≡ at = length-take-le at name (omega arith) in
     (λ _. (take at name, omega arith, sym (ap (λ (b : List ℕ). take at name ++ b) (sym text ∙ is) ∙ take-append-drop at name)), λ _. refl)
-ends_so name back false long is same =
-    (λ e. absurd (let h : false ≡ true = e in cc),
-     λ w. absurd (other_text back _ same (
-        let len : length name ≡ length w.0 + 3 = ap length w.2 ∙ length-append w.0 (46 ∷ 112 ∷ 114 ∷ []) in
-        is ∙ ap (λ (n : List ℕ). drop (length name - 3) n) w.2 ∙ drop_at w.0 (46 ∷ 112 ∷ 114 ∷ []) (length name - 3) (omega arith))))
+ends_so name back false long is same = (
+  λ e. absurd (let h : false ≡ true = e in cc),
+  λ w. absurd (other_text back _ same (
+      let len : length name ≡ length w.0 + 3 = ap length w.2 ∙ length-append w.0 (46 ∷ 112 ∷ 114 ∷ []) in
+      is ∙ ap (λ (n : List ℕ). drop (length name - 3) n) w.2 ∙ drop_at w.0 (46 ∷ 112 ∷ 114 ∷ []) (length name - 3) (omega arith))),
+)
 
 short_is_none : (name stem : List ℕ) → length name < 4 → 0 < length stem → name ≡ stem ++ 46 ∷ 112 ∷ 114 ∷ [] → ⊥
 short_is_none name stem short some is = let len : length name ≡ length stem + 3 = ap length is ∙ length-append stem (46 ∷ 112 ∷ 114 ∷ []) in omega arith
