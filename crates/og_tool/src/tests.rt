@@ -31,11 +31,74 @@ STATE busy; ENDSTATE;
 ENDPROCESS; ENDBLOCK; ENDSYSTEM;
 ";
 
+/// Files that keep the rules: line ends of both kinds, one name for a state and a signal, names and keywords in any case,
+/// comments, names of 64 bytes, several headers of one state, and a file of one line.
+const ACCEPTED: [&[u8]; 6] = [
+    TWO_STATES,
+    b"SYSTEM s;\r\nBLOCK b;\r\nPROCESS p;\r\nSTART; NEXTSTATE a;\r\nSTATE a; ENDSTATE;\r\nENDPROCESS; ENDBLOCK; ENDSYSTEM;\r\n",
+    b"SYSTEM go; SIGNAL go; BLOCK go; PROCESS go; START; NEXTSTATE go; STATE go; INPUT go; OUTPUT go; NEXTSTATE go; ENDSTATE; ENDPROCESS; ENDBLOCK; ENDSYSTEM;",
+    b"system S; Signal Go; block B; process P; /* a * comment */ start; -- one -- nextState IDLE; -- the rest\nState Idle; input GO; nextstate iDLE; endstate; EndProcess; endblock; endsystem;",
+    b"SYSTEM s; BLOCK b; PROCESS aaaaaaaaaaaaaaaaaaaaaaaaaaaaaaaaaaaaaaaaaaaaaaaaaaaaaaaaaaaaaaaa; START; NEXTSTATE aaaaaaaaaaaaaaaaaaaaaaaaaaaaaaaaaaaaaaaaaaaaaaaaaaaaaaaaaaaaaaaa; STATE aaaaaaaaaaaaaaaaaaaaaaaaaaaaaaaaaaaaaaaaaaaaaaaaaaaaaaaaaaaaaaaa; ENDSTATE; ENDPROCESS; ENDBLOCK; ENDSYSTEM;",
+    b"SYSTEM s; SIGNAL x, y; BLOCK b; PROCESS p; START; NEXTSTATE a; STATE a; INPUT x; NEXTSTATE a; ENDSTATE; STATE c; INPUT x; NEXTSTATE a; ENDSTATE; STATE A; INPUT y; NEXTSTATE c; ENDSTATE; ENDPROCESS; ENDBLOCK; ENDSYSTEM;",
+];
+
 #[test]
-fn an_accepted_model_gives_c_that_begins_with_the_include_line(rt: HostRuntime) -> Result<(), Fail> {
-    let (status, text) = compiled(rt.alloc(), TWO_STATES, &[], &[])?;
-    assert_eq!(rt; status, Status::Done);
-    assert!(rt; text.as_slice().starts_with(b"#include <stdint.h>\n".as_slice()));
+fn an_accepted_model_gives_c_that_begins_with_the_include_line(
+    rt: HostRuntime,
+) -> Result<(), Fail> {
+    for file in ACCEPTED {
+        let (status, text) = compiled(rt.alloc(), file, &[], &[])?;
+        assert_eq!(rt; status, Status::Done);
+        assert!(rt;
+            text.as_slice()
+                .starts_with(b"#include <stdint.h>\n".as_slice())
+        );
+    }
+    Ok(())
+}
+
+#[test]
+fn other_words_are_no_command(rt: HostRuntime) -> Result<(), Fail> {
+    for words in [
+        [].as_slice(),
+        ["cc"].as_slice(),
+        ["CC", "m.pr"].as_slice(),
+        ["cc", ".pr"].as_slice(),
+        ["cc", "m.PR"].as_slice(),
+        ["cc", "m.pr "].as_slice(),
+        ["cc", "m.pr", "m.pr"].as_slice(),
+        ["run", "m.pr"].as_slice(),
+    ] {
+        let alloc = rt.alloc();
+        let mut list = Vec::new(alloc);
+        for word in words {
+            list.push(String::from_str(alloc, word)?)?;
+        }
+        let mut store = MemStore::new(Vec::new(alloc), Vec::new(alloc));
+        let mut sink = MemSink::new(alloc, Vec::new(alloc));
+        assert_eq!(rt;
+            run_tool(alloc, &list, &mut store, &mut sink),
+            Status::Usage
+        );
+        assert!(rt; sink.bytes.is_empty() && sink.calls == 0 && store.calls == 0);
+    }
+    Ok(())
+}
+
+#[test]
+fn an_absent_file_is_a_read_fault(rt: HostRuntime) -> Result<(), Fail> {
+    let alloc = rt.alloc();
+    let mut words = Vec::new(alloc);
+    words.push(String::from_str(alloc, "cc")?)?;
+    words.push(String::from_str(alloc, "m.pr")?)?;
+    let mut store = MemStore::new(Vec::new(alloc), Vec::new(alloc));
+    let mut sink = MemSink::new(alloc, Vec::new(alloc));
+    assert_eq!(rt;
+        run_tool(alloc, &words, &mut store, &mut sink),
+        Status::ReadFault
+    );
+    assert!(rt; sink.bytes.is_empty());
+    assert_eq!(rt; Status::ReadFault.code(), 3);
     Ok(())
 }
 
@@ -59,8 +122,14 @@ const REFUSED: [(&[u8], &[u8]); 43] = [
     (b"SYSTEM s; /* no end", b"refused L2 m.pr:1:11\n"),
     (b"SYSTEM s;\nSIGNAL 'no end", b"refused L2 m.pr:2:8\n"),
     (b"SYSTEM 'a''b", b"refused L2 m.pr:1:8\n"),
-    (b"SYSTEM aaaaaaaaaaaaaaaaaaaaaaaaaaaaaaaaaaaaaaaaaaaaaaaaaaaaaaaaaaaaaaaaa", b"refused L3 m.pr:1:8\n"),
-    (b"SYSTEM aaaaaaaaaaaaaaaaaaaaaaaaaaaaaaaaaaaaaaaaaaaaaaaaaaaaaaaaaaaaaaaa", b"refused F1 m.pr:1:1\n"),
+    (
+        b"SYSTEM aaaaaaaaaaaaaaaaaaaaaaaaaaaaaaaaaaaaaaaaaaaaaaaaaaaaaaaaaaaaaaaaa",
+        b"refused L3 m.pr:1:8\n",
+    ),
+    (
+        b"SYSTEM aaaaaaaaaaaaaaaaaaaaaaaaaaaaaaaaaaaaaaaaaaaaaaaaaaaaaaaaaaaaaaaa",
+        b"refused F1 m.pr:1:1\n",
+    ),
     (b"9223372036854775809", b"refused L4 m.pr:1:1\n"),
     (b"9223372036854775808", b"refused F1 m.pr:1:1\n"),
     (b"00000000000000000000009", b"refused F1 m.pr:1:1\n"),
@@ -68,33 +137,114 @@ const REFUSED: [(&[u8], &[u8]); 43] = [
     (b"  \n -- nothing", b"refused F1 m.pr:2:12\n"),
     (b"x @", b"refused L1 m.pr:1:3\n"),
     (b"@ 9223372036854775809", b"refused L1 m.pr:1:1\n"),
-    (b"SYSTEM s; SIGNAL go, done; BLOCK b; PROCESS p;\nSTART; STOP;\nENDPROCESS; ENDBLOCK; ENDSYSTEM;\n", b"refused F1 m.pr:1:1\n"),
-    (b"SYSTEM s; SIGNAL go, done; BLOCK b; PROCESS p;\nSTART; NEXTSTATE idle\nENDPROCESS; ENDBLOCK; ENDSYSTEM;\n", b"refused F1 m.pr:1:1\n"),
-    (b"SYSTEM s; SIGNAL go, done; BLOCK b; PROCESS p;\nSTART; NEXTSTATE a; STATE a; ENDSTATE;\nENDPROCESS; ENDBLOCK;\n", b"refused F1 m.pr:1:1\n"),
-    (b"\r\nSYSTEM s; SIGNAL go, done; BLOCK b; PROCESS p;\nSTART; NEXTSTATE a STATE a; ENDSTATE;\nENDPROCESS; ENDBLOCK; ENDSYSTEM;\n", b"refused F1 m.pr:2:1\n"),
-    (b"SYSTEM s; SIGNAL go, done; BLOCK b; PROCESS p;\nSTART; NEXTSTATE gone;\nENDPROCESS; ENDBLOCK; ENDSYSTEM;\n", b"refused N1 m.pr:2:18\n"),
-    (b"SYSTEM s; SIGNAL go, done; BLOCK b; PROCESS p;\nSTART; NEXTSTATE go;\nENDPROCESS; ENDBLOCK; ENDSYSTEM;\n", b"refused N3 m.pr:2:18\n"),
-    (b"SYSTEM s; SIGNAL go, done; BLOCK b; PROCESS p;\nSTART; NEXTSTATE p;\nENDPROCESS; ENDBLOCK; ENDSYSTEM;\n", b"refused N3 m.pr:2:18\n"),
-    (b"SYSTEM s; SIGNAL go, done; BLOCK b; PROCESS p;\nSTART; NEXTSTATE b;\nENDPROCESS; ENDBLOCK; ENDSYSTEM;\n", b"refused N3 m.pr:2:18\n"),
-    (b"SYSTEM s; SIGNAL go, done; BLOCK b; PROCESS p;\nSTART; NEXTSTATE s;\nENDPROCESS; ENDBLOCK; ENDSYSTEM;\n", b"refused N1 m.pr:2:18\n"),
-    (b"SYSTEM s; SIGNAL go, done; BLOCK b; PROCESS p;\nSTART; NEXTSTATE LENGTH;\nENDPROCESS; ENDBLOCK; ENDSYSTEM;\n", b"refused N3 m.pr:2:18\n"),
-    (b"SYSTEM s; SIGNAL go, done; BLOCK b; PROCESS p;\nSTART; NEXTSTATE boolean;\nENDPROCESS; ENDBLOCK; ENDSYSTEM;\n", b"refused N3 m.pr:2:18\n"),
-    (b"SYSTEM s; SIGNAL go, done; BLOCK b; PROCESS p;\nSTART; NEXTSTATE a;\nSTATE a; INPUT a; NEXTSTATE a; ENDSTATE;\nENDPROCESS; ENDBLOCK; ENDSYSTEM;\n", b"refused N3 m.pr:3:16\n"),
-    (b"SYSTEM s; SIGNAL go, done; BLOCK b; PROCESS p;\nSTART; NEXTSTATE a;\nSTATE a; INPUT gone; OUTPUT other; NEXTSTATE third; ENDSTATE;\nENDPROCESS; ENDBLOCK; ENDSYSTEM;\n", b"refused N1 m.pr:3:16\n"),
-    (b"SYSTEM s; SIGNAL go, done; BLOCK b; PROCESS p;\nSTART; NEXTSTATE a;\nSTATE a; INPUT go; OUTPUT other; NEXTSTATE third; ENDSTATE;\nENDPROCESS; ENDBLOCK; ENDSYSTEM;\n", b"refused N1 m.pr:3:27\n"),
-    (b"SYSTEM s; SIGNAL go, done; BLOCK b; PROCESS p;\nSTART; NEXTSTATE a;\nSTATE a; INPUT go; OUTPUT done; NEXTSTATE third; ENDSTATE;\nENDPROCESS; ENDBLOCK; ENDSYSTEM;\n", b"refused N1 m.pr:3:43\n"),
-    (b"SYSTEM s; SIGNAL go, Go; BLOCK b; PROCESS p;\nSTART; NEXTSTATE a; STATE a; ENDSTATE;\nENDPROCESS; ENDBLOCK; ENDSYSTEM;\n", b"refused N2 m.pr:1:22\n"),
-    (b"SYSTEM s; SIGNAL go;\nSIGNAL done, GO, gO; BLOCK b; PROCESS p;\nSTART; NEXTSTATE a; STATE a; ENDSTATE;\nENDPROCESS; ENDBLOCK; ENDSYSTEM;\n", b"refused N2 m.pr:2:14\n"),
-    (b"SYSTEM s; SIGNAL g__o; BLOCK b; PROCESS p;\nSTART; NEXTSTATE a; STATE a; ENDSTATE;\nENDPROCESS; ENDBLOCK; ENDSYSTEM;\n", b"refused N4 m.pr:1:18\n"),
-    (b"SYSTEM s; SIGNAL g__o, g__o; BLOCK b; PROCESS p;\nSTART; NEXTSTATE a; STATE a; ENDSTATE;\nENDPROCESS; ENDBLOCK; ENDSYSTEM;\n", b"refused N4 m.pr:1:18\n"),
-    (b"SYSTEM s; SIGNAL go, g__o, G__o; BLOCK b__; PROCESS p__;\nSTART; NEXTSTATE gone;\nENDPROCESS; ENDBLOCK; ENDSYSTEM;\n", b"refused N4 m.pr:1:22\n"),
-    (b"SYSTEM s__s; BLOCK b; PROCESS p;\nSTART; NEXTSTATE a__b; STATE a; ENDSTATE;\nENDPROCESS; ENDBLOCK; ENDSYSTEM;\n", b"refused N1 m.pr:2:18\n"),
-    (b"SYSTEM s; BLOCK b; PROCESS p;\nSTART; NEXTSTATE a__b; STATE a__b; ENDSTATE;\nENDPROCESS; ENDBLOCK; ENDSYSTEM;\n", b"refused N4 m.pr:2:30\n"),
-    (b"SYSTEM s; BLOCK b__c; PROCESS p;\nSTART; NEXTSTATE a; STATE a; ENDSTATE;\nENDPROCESS; ENDBLOCK; ENDSYSTEM;\n", b"refused N4 m.pr:1:17\n"),
-    (b"SYSTEM s; SIGNAL go, done; BLOCK b; PROCESS p;\nSTART; NEXTSTATE a;\nSTATE a; INPUT go; NEXTSTATE a; INPUT go; NEXTSTATE a; ENDSTATE;\nENDPROCESS; ENDBLOCK; ENDSYSTEM;\n", b"refused A2 m.pr:3:39\n"),
-    (b"SYSTEM s; SIGNAL go, done; BLOCK b; PROCESS p;\nSTART; NEXTSTATE a;\nSTATE a; INPUT go; NEXTSTATE a; INPUT done; NEXTSTATE a; INPUT GO; NEXTSTATE a; INPUT go; NEXTSTATE a; ENDSTATE;\nENDPROCESS; ENDBLOCK; ENDSYSTEM;\n", b"refused A2 m.pr:3:64\n"),
-    (b"SYSTEM s; SIGNAL go, done; BLOCK b; PROCESS p;\nSTART; NEXTSTATE a;\nSTATE a; INPUT go; NEXTSTATE a; ENDSTATE;\nSTATE c; ENDSTATE;\nSTATE A; INPUT done; NEXTSTATE a; INPUT Go; NEXTSTATE a; ENDSTATE;\nENDPROCESS; ENDBLOCK; ENDSYSTEM;\n", b"refused A2 m.pr:5:41\n"),
-    (b"SYSTEM s; SIGNAL go, done; BLOCK b; PROCESS p;\nSTART; NEXTSTATE a;\nSTATE a; INPUT go; NEXTSTATE a; INPUT go; NEXTSTATE gone; ENDSTATE;\nENDPROCESS; ENDBLOCK; ENDSYSTEM;\n", b"refused N1 m.pr:3:53\n"),
+    (
+        b"SYSTEM s; SIGNAL go, done; BLOCK b; PROCESS p;\nSTART; STOP;\nENDPROCESS; ENDBLOCK; ENDSYSTEM;\n",
+        b"refused F1 m.pr:1:1\n",
+    ),
+    (
+        b"SYSTEM s; SIGNAL go, done; BLOCK b; PROCESS p;\nSTART; NEXTSTATE idle\nENDPROCESS; ENDBLOCK; ENDSYSTEM;\n",
+        b"refused F1 m.pr:1:1\n",
+    ),
+    (
+        b"SYSTEM s; SIGNAL go, done; BLOCK b; PROCESS p;\nSTART; NEXTSTATE a; STATE a; ENDSTATE;\nENDPROCESS; ENDBLOCK;\n",
+        b"refused F1 m.pr:1:1\n",
+    ),
+    (
+        b"\r\nSYSTEM s; SIGNAL go, done; BLOCK b; PROCESS p;\nSTART; NEXTSTATE a STATE a; ENDSTATE;\nENDPROCESS; ENDBLOCK; ENDSYSTEM;\n",
+        b"refused F1 m.pr:2:1\n",
+    ),
+    (
+        b"SYSTEM s; SIGNAL go, done; BLOCK b; PROCESS p;\nSTART; NEXTSTATE gone;\nENDPROCESS; ENDBLOCK; ENDSYSTEM;\n",
+        b"refused N1 m.pr:2:18\n",
+    ),
+    (
+        b"SYSTEM s; SIGNAL go, done; BLOCK b; PROCESS p;\nSTART; NEXTSTATE go;\nENDPROCESS; ENDBLOCK; ENDSYSTEM;\n",
+        b"refused N3 m.pr:2:18\n",
+    ),
+    (
+        b"SYSTEM s; SIGNAL go, done; BLOCK b; PROCESS p;\nSTART; NEXTSTATE p;\nENDPROCESS; ENDBLOCK; ENDSYSTEM;\n",
+        b"refused N3 m.pr:2:18\n",
+    ),
+    (
+        b"SYSTEM s; SIGNAL go, done; BLOCK b; PROCESS p;\nSTART; NEXTSTATE b;\nENDPROCESS; ENDBLOCK; ENDSYSTEM;\n",
+        b"refused N3 m.pr:2:18\n",
+    ),
+    (
+        b"SYSTEM s; SIGNAL go, done; BLOCK b; PROCESS p;\nSTART; NEXTSTATE s;\nENDPROCESS; ENDBLOCK; ENDSYSTEM;\n",
+        b"refused N1 m.pr:2:18\n",
+    ),
+    (
+        b"SYSTEM s; SIGNAL go, done; BLOCK b; PROCESS p;\nSTART; NEXTSTATE LENGTH;\nENDPROCESS; ENDBLOCK; ENDSYSTEM;\n",
+        b"refused N3 m.pr:2:18\n",
+    ),
+    (
+        b"SYSTEM s; SIGNAL go, done; BLOCK b; PROCESS p;\nSTART; NEXTSTATE boolean;\nENDPROCESS; ENDBLOCK; ENDSYSTEM;\n",
+        b"refused N3 m.pr:2:18\n",
+    ),
+    (
+        b"SYSTEM s; SIGNAL go, done; BLOCK b; PROCESS p;\nSTART; NEXTSTATE a;\nSTATE a; INPUT a; NEXTSTATE a; ENDSTATE;\nENDPROCESS; ENDBLOCK; ENDSYSTEM;\n",
+        b"refused N3 m.pr:3:16\n",
+    ),
+    (
+        b"SYSTEM s; SIGNAL go, done; BLOCK b; PROCESS p;\nSTART; NEXTSTATE a;\nSTATE a; INPUT gone; OUTPUT other; NEXTSTATE third; ENDSTATE;\nENDPROCESS; ENDBLOCK; ENDSYSTEM;\n",
+        b"refused N1 m.pr:3:16\n",
+    ),
+    (
+        b"SYSTEM s; SIGNAL go, done; BLOCK b; PROCESS p;\nSTART; NEXTSTATE a;\nSTATE a; INPUT go; OUTPUT other; NEXTSTATE third; ENDSTATE;\nENDPROCESS; ENDBLOCK; ENDSYSTEM;\n",
+        b"refused N1 m.pr:3:27\n",
+    ),
+    (
+        b"SYSTEM s; SIGNAL go, done; BLOCK b; PROCESS p;\nSTART; NEXTSTATE a;\nSTATE a; INPUT go; OUTPUT done; NEXTSTATE third; ENDSTATE;\nENDPROCESS; ENDBLOCK; ENDSYSTEM;\n",
+        b"refused N1 m.pr:3:43\n",
+    ),
+    (
+        b"SYSTEM s; SIGNAL go, Go; BLOCK b; PROCESS p;\nSTART; NEXTSTATE a; STATE a; ENDSTATE;\nENDPROCESS; ENDBLOCK; ENDSYSTEM;\n",
+        b"refused N2 m.pr:1:22\n",
+    ),
+    (
+        b"SYSTEM s; SIGNAL go;\nSIGNAL done, GO, gO; BLOCK b; PROCESS p;\nSTART; NEXTSTATE a; STATE a; ENDSTATE;\nENDPROCESS; ENDBLOCK; ENDSYSTEM;\n",
+        b"refused N2 m.pr:2:14\n",
+    ),
+    (
+        b"SYSTEM s; SIGNAL g__o; BLOCK b; PROCESS p;\nSTART; NEXTSTATE a; STATE a; ENDSTATE;\nENDPROCESS; ENDBLOCK; ENDSYSTEM;\n",
+        b"refused N4 m.pr:1:18\n",
+    ),
+    (
+        b"SYSTEM s; SIGNAL g__o, g__o; BLOCK b; PROCESS p;\nSTART; NEXTSTATE a; STATE a; ENDSTATE;\nENDPROCESS; ENDBLOCK; ENDSYSTEM;\n",
+        b"refused N4 m.pr:1:18\n",
+    ),
+    (
+        b"SYSTEM s; SIGNAL go, g__o, G__o; BLOCK b__; PROCESS p__;\nSTART; NEXTSTATE gone;\nENDPROCESS; ENDBLOCK; ENDSYSTEM;\n",
+        b"refused N4 m.pr:1:22\n",
+    ),
+    (
+        b"SYSTEM s__s; BLOCK b; PROCESS p;\nSTART; NEXTSTATE a__b; STATE a; ENDSTATE;\nENDPROCESS; ENDBLOCK; ENDSYSTEM;\n",
+        b"refused N1 m.pr:2:18\n",
+    ),
+    (
+        b"SYSTEM s; BLOCK b; PROCESS p;\nSTART; NEXTSTATE a__b; STATE a__b; ENDSTATE;\nENDPROCESS; ENDBLOCK; ENDSYSTEM;\n",
+        b"refused N4 m.pr:2:30\n",
+    ),
+    (
+        b"SYSTEM s; BLOCK b__c; PROCESS p;\nSTART; NEXTSTATE a; STATE a; ENDSTATE;\nENDPROCESS; ENDBLOCK; ENDSYSTEM;\n",
+        b"refused N4 m.pr:1:17\n",
+    ),
+    (
+        b"SYSTEM s; SIGNAL go, done; BLOCK b; PROCESS p;\nSTART; NEXTSTATE a;\nSTATE a; INPUT go; NEXTSTATE a; INPUT go; NEXTSTATE a; ENDSTATE;\nENDPROCESS; ENDBLOCK; ENDSYSTEM;\n",
+        b"refused A2 m.pr:3:39\n",
+    ),
+    (
+        b"SYSTEM s; SIGNAL go, done; BLOCK b; PROCESS p;\nSTART; NEXTSTATE a;\nSTATE a; INPUT go; NEXTSTATE a; INPUT done; NEXTSTATE a; INPUT GO; NEXTSTATE a; INPUT go; NEXTSTATE a; ENDSTATE;\nENDPROCESS; ENDBLOCK; ENDSYSTEM;\n",
+        b"refused A2 m.pr:3:64\n",
+    ),
+    (
+        b"SYSTEM s; SIGNAL go, done; BLOCK b; PROCESS p;\nSTART; NEXTSTATE a;\nSTATE a; INPUT go; NEXTSTATE a; ENDSTATE;\nSTATE c; ENDSTATE;\nSTATE A; INPUT done; NEXTSTATE a; INPUT Go; NEXTSTATE a; ENDSTATE;\nENDPROCESS; ENDBLOCK; ENDSYSTEM;\n",
+        b"refused A2 m.pr:5:41\n",
+    ),
+    (
+        b"SYSTEM s; SIGNAL go, done; BLOCK b; PROCESS p;\nSTART; NEXTSTATE a;\nSTATE a; INPUT go; NEXTSTATE a; INPUT go; NEXTSTATE gone; ENDSTATE;\nENDPROCESS; ENDBLOCK; ENDSYSTEM;\n",
+        b"refused N1 m.pr:3:53\n",
+    ),
 ];
 
 #[test]
@@ -132,7 +282,10 @@ fn limits_are_kept_at_their_edges(rt: HostRuntime) -> Result<(), Fail> {
         let file = wide(rt.alloc(), states, signals)?;
         let (answer, text) = compiled(rt.alloc(), &file, &[], &[])?;
         assert_eq!(rt; answer, status);
-        assert!(rt; answer == Status::Done || text.as_slice() == line.as_bytes(), "another line is written");
+        assert!(rt;
+            answer == Status::Done || text.as_slice() == line.as_bytes(),
+            "another line is written"
+        );
     }
     Ok(())
 }
