@@ -7,10 +7,11 @@ use Rattle.og_model.specs.declared.StateDef.{StateDef}
 use Rattle.og_model.specs.declared.Handler.{Handler}
 use Rattle.og_model.specs.declared.Partition.{Partition}
 use Rattle.og_model.specs.declared.StateKind as Kinds
+use Rattle.og_model.specs.declared.EndKind.TheVariants as Ends
 use Rattle.og_model.specs.declared.BinaryOp.TheVariants as Ops
 use Rattle.og_model.specs.declared.FaultKind.TheVariants as Faults
 use Rattle.og_model.specs.Shown.{Shown, Stimulus}
-use Rattle.og_model_examples.specs.Words.{at, name_idle, name_g, name_l, name_l0, name_l1, name_m, name_m0, name_z, name_exit, type_byte, whole, plain, literal, number, computed, set, state, basic, from_first, partition, body, next, returning, input, connect, procedure, sending, send, send_done, model, model_with, go, go_next, go_done, sent, sent_done, rests, faults, idle}
+use Rattle.og_model_examples.specs.Words.{scope, partition_with, stops, name_entry, at, name_idle, name_g, name_l, name_l0, name_l1, name_m, name_m0, name_z, name_exit, type_byte, whole, plain, literal, number, computed, set, state, basic, from_first, partition, body, next, returning, input, connect, procedure, sending, send, send_done, model, model_with, go, go_next, go_done, sent, sent_done, rests, faults, idle}
 
 -- the state `g` with the partitions `l` and `m`
 abbrev pub both : Partition → Partition → List Handler → StateDef
@@ -133,3 +134,46 @@ side_by_side_trace = rests [] at_first [] []
     ∷ rests (sent 1 ∷ []) (in_l name_l0 ∷ []) [] []
     ∷ rests [] (in_l name_l0 ∷ []) [] []
     ∷ rests [] idle [] [] ∷ []
+
+-- ---- while it is entered
+
+-- STATE AGGREGATION g; SUBSTRUCTURE
+--   STATE l; SUBSTRUCTURE START; OUTPUT num(1); NEXTSTATE l0; STATE l0; ENDSTATE; ENDSUBSTRUCTURE;
+--   STATE m; SUBSTRUCTURE START; STOP; ENDSUBSTRUCTURE;
+-- ENDSUBSTRUCTURE;
+-- START; NEXTSTATE g;
+abbrev pub stopping : Model
+stopping = model (from_first
+    (both
+    (partition name_l None (scope (basic name_l0 [] ∷ []) (body (send 1 ∷ []) (next 0) ∷ [])))
+    (partition name_m None (scope [] (body [] Ends.Stop ∷ [])))
+    [] ∷ [])
+    [])
+
+abbrev pub stopping_trace : List Shown
+stopping_trace = stops (sent 1 ∷ []) [] ∷ []
+
+-- STATE AGGREGATION g; SUBSTRUCTURE
+--   PROCEDURE exit; START; OUTPUT num(4); RETURN; ENDPROCEDURE;
+--   STATE l; SUBSTRUCTURE PROCEDURE exit; START; OUTPUT num(1); RETURN; ENDPROCEDURE; START; RETURN; ENDSUBSTRUCTURE;
+--   STATE m; SUBSTRUCTURE
+--     PROCEDURE entry; START; OUTPUT num(2); RETURN; ENDPROCEDURE; PROCEDURE exit; START; OUTPUT num(3); RETURN; ENDPROCEDURE;
+--     START; RETURN; ENDSUBSTRUCTURE;
+-- ENDSUBSTRUCTURE;
+-- START; NEXTSTATE g;
+-- STATE g; CONNECT; OUTPUT num(5); NEXTSTATE idle; ENDSTATE;
+-- STATE idle; ENDSTATE;
+abbrev pub done_at_once : Model
+done_at_once = model_with [] []
+    (sending name_exit 4 ∷ sending name_exit 1 ∷ sending name_entry 2 ∷ sending name_exit 3 ∷ [])
+    (from_first
+    (state name_g (Kinds.Aggregation None (Some 0)
+    (partition_with name_l None (Some 1) (scope [] (body [] returning ∷ []))
+    ∷ partition_with name_m (Some 2) (Some 3) (scope [] (body [] returning ∷ [])) ∷ []))
+    (connect None 1 ∷ [])
+    ∷ basic name_idle [] ∷ [])
+    (body (send 5 ∷ []) (next 1) ∷ []))
+
+-- the first partition is done before the second one is entered
+abbrev pub done_at_once_trace : List Shown
+done_at_once_trace = rests (sent 1 ∷ sent 2 ∷ sent 3 ∷ sent 4 ∷ sent 5 ∷ []) idle [] [] ∷ []

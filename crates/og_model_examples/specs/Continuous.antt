@@ -5,11 +5,13 @@ use Rattle.og_model.specs.declared.Model.{Model}
 use Rattle.og_model.specs.declared.Expr.{Expr}
 use Rattle.og_model.specs.declared.StateKind as Kinds
 use Rattle.og_model.specs.declared.EndKind.TheVariants as Ends
+use Rattle.og_model.specs.declared.Trigger.TheVariants as Triggers
+use Rattle.og_model.specs.declared.VarId.TheVariants as Vars
 use Rattle.og_model.specs.declared.BinaryOp.{BinaryOp}
 use Rattle.og_model.specs.declared.BinaryOp.TheVariants as Ops
 use Rattle.og_model.specs.declared.FaultKind.TheVariants as Faults
 use Rattle.og_model.specs.Shown.{Shown}
-use Rattle.og_model_examples.specs.Words.{at, name_idle, name_u, name_i, name_x, type_byte, whole, plain, literal, number, constant, computed, decided, set, state, basic, from_first, body, next, input, provided, send, send_done, model, model_with, sent, sent_done, rests, faults, runs_on, idle}
+use Rattle.og_model_examples.specs.Words.{handler, go_a, at, name_idle, name_u, name_i, name_x, type_byte, whole, plain, literal, number, constant, computed, decided, set, state, basic, from_first, body, next, input, provided, send, send_done, model, model_with, sent, sent_done, rests, faults, runs_on, idle}
 
 -- a comparison of `x`
 abbrev pub x_is : BinaryOp → ℕ → Expr
@@ -89,3 +91,21 @@ without_rest_in_11 = runs_on (sent_done ∷ sent_done ∷ []) ∷ []
 
 abbrev pub without_rest_in_12 : List Shown
 without_rest_in_12 = runs_on (sent_done ∷ sent_done ∷ sent_done ∷ []) ∷ []
+
+-- DCL x Byte;
+-- START; NEXTSTATE idle;
+-- STATE idle; INPUT a(x); NEXTSTATE -; PROVIDED x > 1; PRIORITY 2; OUTPUT num(2); TASK x := 0; NEXTSTATE -;
+-- PROVIDED x > 0; PRIORITY 1; OUTPUT num(1); TASK x := 0; NEXTSTATE -; ENDSTATE;
+abbrev pub lower_first : Model
+lower_first = model_with [] (plain name_x type_byte ∷ []) []
+    (from_first
+    (basic name_idle
+    (handler (at 4 19) (Triggers.Input 3 (Vars.Process 0 ∷ [])) 1
+    ∷ provided (at 4 38) (Some 2) (x_is Ops.Gt 1) 2
+    ∷ provided (at 5 1) (Some 1) (x_is Ops.Gt 0) 3 ∷ []) ∷ [])
+    (body [] Ends.Dash
+    ∷ body (send 2 ∷ set (at 4 86) 0 (literal 0) ∷ []) Ends.Dash
+    ∷ body (send 1 ∷ set (at 5 49) 0 (literal 0) ∷ []) Ends.Dash ∷ []))
+
+abbrev pub lower_first_trace : List Shown
+lower_first_trace = rests [] idle (whole 0 ∷ []) [] ∷ rests (sent 1 ∷ []) idle (whole 0 ∷ []) [] ∷ []

@@ -147,3 +147,23 @@ abbrev pub guarded_trace : List Shown
 guarded_trace = rests [] ((name_u ∷ name_i ∷ []) ∷ []) (whole 0 ∷ []) []
     ∷ rests (sent 3 ∷ []) ((name_u ∷ name_i ∷ []) ∷ []) (whole 7 ∷ []) []
     ∷ faults [] Faults.Range (at 7 16) (whole 7 ∷ []) [] ∷ []
+
+-- STATE u; SUBSTRUCTURE IN (l);
+--   START; NEXTSTATE i; START l; OUTPUT num(1); NEXTSTATE j; STATE i; ENDSTATE; STATE j; ENDSTATE;
+-- ENDSUBSTRUCTURE;
+-- START; NEXTSTATE u VIA l;
+-- STATE u; INPUT next; NEXTSTATE -; ENDSTATE;
+abbrev pub two_starts : Scope
+two_starts = roll-Scope (record {
+  states = basic name_i [] ∷ basic name_j [] ∷ [];
+  starts = record { entry = None; body = 0 } ∷ record { entry = Some name_l; body = 1 } ∷ [];
+  bodies = body [] (next 0) ∷ body (send 1 ∷ []) (next 1) ∷ [];
+})
+
+abbrev pub starting_inside : Model
+starting_inside = model (scope (state name_u (holding two_starts) (input 1 1 ∷ []) ∷ []) (body [] (Ends.Next 0 (Some name_l)) ∷ body [] Ends.Dash ∷ []))
+
+-- a dash takes the start without a name
+abbrev pub starting_inside_trace : List Shown
+starting_inside_trace = rests (sent 1 ∷ []) ((name_u ∷ name_j ∷ []) ∷ []) [] []
+    ∷ rests [] ((name_u ∷ name_i ∷ []) ∷ []) [] [] ∷ []

@@ -7,12 +7,13 @@ use Rattle.og_model.specs.declared.Arg.TheVariants as Args
 use Rattle.og_model.specs.declared.VarId.TheVariants as Vars
 use Rattle.og_model.specs.declared.Block.{roll-Block}
 use Rattle.og_model.specs.declared.Step.{Step}
+use Rattle.og_model.specs.declared.Trigger.TheVariants as Triggers
 use Rattle.og_model.specs.declared.Action as Actions
 use Rattle.og_model.specs.declared.EndKind.TheVariants as Ends
 use Rattle.og_model.specs.declared.BinaryOp.TheVariants as Ops
 use Rattle.og_model.specs.declared.FaultKind.TheVariants as Kinds
 use Rattle.og_model.specs.Shown.{Shown, Stimulus}
-use Rattle.og_model_examples.specs.Words.{at, somewhere, name_idle, name_l, name_q, name_v, name_k, name_x, name_y, name_z, type_byte, type_small, whole, wholes, declared, plain, literal, number, number_at, local, computed, step, labelled, set, send, basic, from_first, open_block, body, branch, returning, input, model_with, go, go_next, sent, rests, faults, idle}
+use Rattle.og_model_examples.specs.Words.{block, handler, scope, next, go_a, stops, runs_on, send_done, sent_done, model, at, somewhere, name_idle, name_l, name_q, name_v, name_k, name_x, name_y, name_z, type_byte, type_small, whole, wholes, declared, plain, literal, number, number_at, local, computed, step, labelled, set, send, basic, from_first, open_block, body, branch, returning, input, model_with, go, go_next, sent, rests, faults, idle}
 
 -- ---- procedures
 
@@ -117,7 +118,67 @@ abbrev pub returning_too_much_trace : List Shown
 returning_too_much_trace = rests [] idle (wholes (7 ∷ 0 ∷ [])) []
     ∷ faults [] Kinds.Range (at 3 52) (wholes (7 ∷ 0 ∷ [])) [] ∷ []
 
+-- PROCEDURE q; FPAR IN v Byte; RETURNS Byte; START; RETURN v * 2; ENDPROCEDURE;
+abbrev pub twice : Proc
+twice = record adding {
+  formals = record { name = name_v; sort = type_byte; bound = false } ∷ [];
+  locals = plain name_v type_byte ∷ [];
+  bodies = record {
+    place = somewhere;
+    label = None;
+    block = roll-Block (record {
+      steps = [];
+      end = Some (record { label = None; place = at 3 51; kind = Ends.Return None (Some (computed Ops.Mul (number_at (local 0)) (literal 2))) });
+    });
+  } ∷ [];
+}
+
+-- DCL x Byte;
+-- START; TASK x := CALL q(3); NEXTSTATE idle;
+-- STATE idle; INPUT a(x); TASK x := CALL q(x); NEXTSTATE -; ENDSTATE;
+abbrev pub calling : Model
+calling = model_with [] (plain name_x type_byte ∷ []) (twice ∷ [])
+    (scope (basic name_idle (handler (at 5 19) (Triggers.Input 3 (Vars.Process 0 ∷ [])) 1 ∷ []) ∷ [])
+    (body (step (at 4 13) (Actions.Call 0 (Args.Copy (literal 3) ∷ []) (Some (Vars.Process 0))) ∷ []) (next 0)
+    ∷ body (step (at 5 30) (Actions.Call 0 (Args.Copy (number 0) ∷ []) (Some (Vars.Process 0))) ∷ []) Ends.Dash ∷ []))
+
+-- twice 200 is no Byte
+abbrev pub calling_trace : List Shown
+calling_trace = rests [] idle (whole 6 ∷ []) [] ∷ faults [] Kinds.Range (at 3 51) (whole 200 ∷ []) [] ∷ []
+
 -- ---- decisions and labels
+
+-- DCL x Byte;
+-- START; NEXTSTATE idle;
+-- STATE idle; INPUT a(x); DECISION x; (0): OUTPUT num(1); (1:9): OUTPUT num(2); STOP; ELSE: ENDDECISION; NEXTSTATE -; ENDSTATE;
+abbrev pub deciding : Model
+deciding = model_with [] (plain name_x type_byte ∷ []) []
+    (from_first (basic name_idle (handler (at 4 19) (Triggers.Input 3 (Vars.Process 0 ∷ [])) 1 ∷ []) ∷ [])
+    (body
+    (step (at 4 25) (Actions.Decide (number 0)
+    (branch 0 0 (open_block (send 1 ∷ [])) ∷ branch 1 9 (block (send 2 ∷ []) Ends.Stop) ∷ []) (Some (open_block []))) ∷ [])
+    Ends.Dash ∷ []))
+
+abbrev pub deciding_stimuli : List Stimulus
+deciding_stimuli = go_a 0 ∷ go_a 10 ∷ go_a 9 ∷ go ∷ []
+
+abbrev pub deciding_trace : List Shown
+deciding_trace = rests [] idle (whole 0 ∷ []) []
+    ∷ rests (sent 1 ∷ []) idle (whole 0 ∷ []) []
+    ∷ rests [] idle (whole 10 ∷ []) []
+    ∷ stops (sent 2 ∷ []) (whole 9 ∷ [])
+    ∷ stops [] (whole 9 ∷ []) ∷ []
+
+-- START; l: OUTPUT done; JOIN l;
+abbrev pub joining_for_ever : Model
+joining_for_ever = model (scope [] (body (labelled name_l send_done ∷ []) (Ends.Join name_l) ∷ []))
+
+-- each round takes two units
+abbrev pub joining_for_ever_in_4 : List Shown
+joining_for_ever_in_4 = runs_on (sent_done ∷ sent_done ∷ []) ∷ []
+
+abbrev pub joining_for_ever_in_5 : List Shown
+joining_for_ever_in_5 = runs_on (sent_done ∷ sent_done ∷ sent_done ∷ []) ∷ []
 
 abbrev pub decision : ℕ → List Step → List Step → Step
 decision n then otherwise = step somewhere (Actions.Decide (number 0) (branch n 255 (open_block then) ∷ []) (Some (open_block otherwise)))

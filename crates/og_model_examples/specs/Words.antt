@@ -328,6 +328,10 @@ from_first states bodies = scope states (body [] (next 0) ∷ bodies)
 abbrev pub partition : NameId → Option ℕ → Scope → Partition
 partition n exit inner = roll-Partition (record { name = n; entry = None; exit = exit; inner = inner })
 
+-- the same with an `entry` too
+abbrev pub partition_with : NameId → Option ℕ → Option ℕ → Scope → Partition
+partition_with n before exit inner = roll-Partition (record { name = n; entry = before; exit = exit; inner = inner })
+
 -- ---- models
 
 abbrev pub signal : ℕ → List TypeId → Signal

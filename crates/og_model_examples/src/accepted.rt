@@ -8,7 +8,7 @@ ghost use Rattle.og_model_examples.specs.Procedures as Procedures;
 ghost use Rattle.og_model_examples.specs.Nested as Nested;
 ghost use Rattle.og_model_examples.specs.Aggregations as Aggregations;
 ghost use Rattle.og_model_examples.specs.Timers.{timing, without_handler};
-ghost use Rattle.og_model_examples.specs.Continuous.{by_place, by_priority, failing_condition, without_rest};
+ghost use Rattle.og_model_examples.specs.Continuous.{by_place, by_priority, lower_first, failing_condition, without_rest};
 ghost use Rattle.og_model_examples.specs.Data as Data;
 
 /// Basic states and data.
@@ -33,6 +33,9 @@ pub fn procedures_are_accepted()
     ensures sharing { IsWellFormed Procedures.sharing }
     ensures receiving { IsWellFormed Procedures.receiving }
     ensures returning_too_much { IsWellFormed Procedures.returning_too_much }
+    ensures calling { IsWellFormed Procedures.calling }
+    ensures deciding { IsWellFormed Procedures.deciding }
+    ensures joining_for_ever { IsWellFormed Procedures.joining_for_ever }
     ensures joining { IsWellFormed Procedures.joining }
 {}
 
@@ -43,6 +46,9 @@ pub fn nested_states_are_accepted()
     ensures completing { IsWellFormed Nested.completing }
     ensures entering { IsWellFormed Nested.entering }
     ensures dashing { IsWellFormed Nested.dashing }
+    ensures starting_inside { IsWellFormed Nested.starting_inside }
+    ensures stopping_partition { IsWellFormed Aggregations.stopping }
+    ensures done_at_once { IsWellFormed Aggregations.done_at_once }
     ensures guarded { IsWellFormed Nested.guarded }
     ensures aggregation { IsWellFormed Aggregations.completing }
     ensures failing_exit { IsWellFormed Aggregations.failing_exit }
@@ -56,6 +62,7 @@ pub fn other_stimuli_are_accepted()
     ensures without_handler { IsWellFormed without_handler }
     ensures by_place { IsWellFormed by_place }
     ensures by_priority { IsWellFormed by_priority }
+    ensures lower_first { IsWellFormed lower_first }
     ensures failing_condition { IsWellFormed failing_condition }
     ensures without_rest { IsWellFormed without_rest }
 {}

@@ -2,7 +2,7 @@
 
 ghost use Rattle.std.specs.Prelude.{◌≡◌, [], ◌∷◌};
 ghost use Rattle.og_model.specs.Run.{sdl};
-ghost use Rattle.og_model_examples.specs.Words.{go};
+ghost use Rattle.og_model_examples.specs.Words.{go, go_next};
 ghost use Rattle.og_model_examples.specs.Nested as Nested;
 ghost use Rattle.og_model_examples.specs.Aggregations as Aggregations;
 
@@ -23,7 +23,8 @@ pub fn inner_states_come_first()
 
 /// A dash of an inner state enters that state alone, a dash of the outer one enters it anew.
 pub fn dashes_enter_anew()
-    ensures { sdl Nested.dashing Nested.dashing_stimuli 100 ≡ Nested.dashing_trace }
+    ensures by_the_start_without_a_name { sdl Nested.starting_inside (go_next ∷ []) 100 ≡ Nested.starting_inside_trace }
+    ensures inner_and_outer { sdl Nested.dashing Nested.dashing_stimuli 100 ≡ Nested.dashing_trace }
 {}
 
 /// The values of an input are assigned, and tested, before anything is left.
@@ -45,4 +46,10 @@ pub fn partitions_are_left_in_order()
 pub fn partitions_take_their_signals()
     ensures outward { sdl Aggregations.outward Aggregations.outward_stimuli 100 ≡ Aggregations.outward_trace }
     ensures side_by_side { sdl Aggregations.side_by_side Aggregations.side_by_side_stimuli 100 ≡ Aggregations.side_by_side_trace }
+{}
+
+/// STOP in the start of a partition ends the process; a partition that returns is done before the next one is entered.
+pub fn aggregations_can_end_while_entered()
+    ensures stopped { sdl Aggregations.stopping [] 100 ≡ Aggregations.stopping_trace }
+    ensures completed { sdl Aggregations.done_at_once [] 100 ≡ Aggregations.done_at_once_trace }
 {}

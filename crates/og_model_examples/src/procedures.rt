@@ -2,8 +2,8 @@
 
 ghost use Rattle.std.specs.Prelude.{◌≡◌, [], ◌∷◌};
 ghost use Rattle.og_model.specs.Run.{sdl};
-ghost use Rattle.og_model_examples.specs.Words.{go, go_next};
-ghost use Rattle.og_model_examples.specs.Procedures.{failing_inside, failing_inside_trace, sharing, sharing_stimuli, sharing_trace, receiving, receiving_twice_trace, receiving_small_trace, returning_too_much, returning_too_much_trace, joining, joining_stimuli, joining_trace, joining_from, joining_from_5_trace, joining_from_7_trace};
+ghost use Rattle.og_model_examples.specs.Words.{go, go_next, go_a};
+ghost use Rattle.og_model_examples.specs.Procedures.{failing_inside, failing_inside_trace, sharing, sharing_stimuli, sharing_trace, receiving, receiving_twice_trace, receiving_small_trace, returning_too_much, returning_too_much_trace, calling, calling_trace, deciding, deciding_stimuli, deciding_trace, joining_for_ever, joining_for_ever_in_4, joining_for_ever_in_5, joining, joining_stimuli, joining_trace, joining_from, joining_from_5_trace, joining_from_7_trace};
 
 /// An IN/OUT parameter is the variable itself: it stays changed at a fault inside, and each change is seen at once.
 pub fn parameters_are_shared()
@@ -15,6 +15,7 @@ pub fn parameters_are_shared()
 pub fn faults_around_calls()
     ensures argument { sdl receiving (go ∷ go ∷ []) 100 ≡ receiving_twice_trace }
     ensures received { sdl receiving (go_next ∷ []) 100 ≡ receiving_small_trace }
+    ensures copied { sdl calling (go_a 200 ∷ []) 100 ≡ calling_trace }
     ensures returned { sdl returning_too_much (go ∷ []) 100 ≡ returning_too_much_trace }
 {}
 
@@ -23,4 +24,15 @@ pub fn branches_go_on()
     ensures joined { sdl joining joining_stimuli 100 ≡ joining_trace }
     ensures otherwise { sdl (joining_from 5) (go ∷ []) 100 ≡ joining_from_5_trace }
     ensures inside { sdl (joining_from 7) (go ∷ []) 100 ≡ joining_from_7_trace }
+{}
+
+/// The branch is taken whose answer has the value, else the ELSE branch.
+pub fn decisions_take_a_branch()
+    ensures { sdl deciding deciding_stimuli 100 ≡ deciding_trace }
+{}
+
+/// A JOIN of its own label runs on until the units are used up.
+pub fn joins_can_run_on()
+    ensures in_4 { sdl joining_for_ever [] 4 ≡ joining_for_ever_in_4 }
+    ensures in_5 { sdl joining_for_ever [] 5 ≡ joining_for_ever_in_5 }
 {}
