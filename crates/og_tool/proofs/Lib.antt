@@ -2,3 +2,4 @@ pub mod Repeats
 pub mod Sentences
 pub mod WordForms
 pub mod RunParts
+pub mod OneAnswer

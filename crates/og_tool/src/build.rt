@@ -1,5 +1,7 @@
 //! The model of a file that keeps the rules.
-use crate::rules::{Tables, add_name, number_in};
+ghost use Rattle.og_tool.specs.Names.{AreShort, HasShortNames, input_names, state_names};
+
+use crate::rules::{Tables, add_declared, add_name, number_in};
 use crate::syntax::{Ident, InputText, NextText, StateText, SystemText};
 use og_model::{
     Action, Block, Body, EndKind, Ending, Handler, Model, Scope, Signal, Start, StateDef,
@@ -11,7 +13,9 @@ use sqlite_items::Items;
 use std::alloc::Global;
 
 /// The model of a file, by the numbers that the tables give to signals and states.
-pub fn model_of(alloc: Global, system: &SystemText, tables: &Tables) -> Result<Model, NoMemory> {
+pub fn model_of(alloc: Global, system: &SystemText, tables: &Tables) -> Result<Model, NoMemory>
+    requires { HasShortNames system.now }
+{
     let mut names = Names::new(alloc);
     add_all_names(&mut names, system)?;
     Ok(Model {
@@ -27,11 +31,13 @@ pub fn model_of(alloc: Global, system: &SystemText, tables: &Tables) -> Result<M
 }
 
 /// Numbers the names in the order of the tokens.
-fn add_all_names(names: &mut Names, system: &SystemText) -> Result<(), NoMemory> {
+#[tactic(auto, using(crate::proofs::ShortNames::shorts))]
+fn add_all_names(names: &mut Names, system: &SystemText) -> Result<(), NoMemory>
+    requires { HasShortNames system.now }
+{
     add_name(names, &system.system)?;
     for signal in system.signals.as_slice() {
-        add_name(names, &signal.first)?;
-        add_each(names, signal.others.as_slice())?;
+        add_declared(names, signal)?;
     }
     add_name(names, &system.block)?;
     add_name(names, &system.process)?;
@@ -42,20 +48,34 @@ fn add_all_names(names: &mut Names, system: &SystemText) -> Result<(), NoMemory>
     Ok(())
 }
 
-fn add_each(names: &mut Names, more: &[Ident]) -> Result<(), NoMemory> {
+#[tactic(auto, using(crate::proofs::ShortNames::shorts))]
+fn add_each(names: &mut Names, more: &[Ident]) -> Result<(), NoMemory>
+    requires { AreShort more.now }
+{
     for name in more {
         add_name(names, name)?;
     }
     Ok(())
 }
 
-fn add_state_names(names: &mut Names, state: &StateText) -> Result<(), NoMemory> {
+#[tactic(auto, using(crate::proofs::ShortNames::shorts))]
+fn add_state_names(names: &mut Names, state: &StateText) -> Result<(), NoMemory>
+    requires { AreShort (state_names state.now) }
+{
     add_name(names, &state.name)?;
     for input in state.inputs.as_slice() {
-        add_name(names, &input.signal)?;
-        add_each(names, input.outputs.as_slice())?;
-        add_name(names, &input.next.state)?;
+        add_input_names(names, input)?;
     }
+    Ok(())
+}
+
+#[tactic(auto, using(crate::proofs::ShortNames::shorts))]
+fn add_input_names(names: &mut Names, input: &InputText) -> Result<(), NoMemory>
+    requires { AreShort (input_names input.now) }
+{
+    add_name(names, &input.signal)?;
+    add_each(names, input.outputs.as_slice())?;
+    add_name(names, &input.next.state)?;
     Ok(())
 }
 

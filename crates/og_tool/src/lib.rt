@@ -3,6 +3,7 @@
 
 mod build;
 mod compile;
+mod laws;
 mod parse;
 mod report;
 mod rules;
@@ -13,5 +14,6 @@ mod syntax;
 mod tests;
 mod words;
 
+pub use laws::one_answer;
 pub use run::run_tool;
 pub use status::Status;
