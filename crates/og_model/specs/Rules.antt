@@ -1,6 +1,6 @@
 -- The rules of the language that a model keeps, as far as they can be broken by the forms that are compiled today; each is
 -- named by the letters and number under which a user sees it. Names are declared once (N2, after Z.101 section 6.3), a state
--- has one transition for each stimulus (A2, Z.101 section 11.11), and the process has a start (Z.101 section 11.10). That a
+-- has one transition for each stimulus (A2, Z.101 section 11.2), and the process has a start (Z.101 section 11.1). That a
 -- name has no two underscores together (N4) and the greatest numbers of states, signals and timers (M1, M2) are this
 -- project's own.
 use Rattle.std.specs.Prelude.{ℕ, zero, suc, Bool, true, false, not, ◌&&◌, ◌||◌, ◌≤◌, List, [], ◌∷◌, ◌++◌, length, map, nat_eq, slice_get, is_none, IsTrue, Option, Some, None}

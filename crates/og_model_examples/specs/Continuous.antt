@@ -11,7 +11,7 @@ use Rattle.og_model.specs.declared.BinaryOp.{BinaryOp}
 use Rattle.og_model.specs.declared.BinaryOp.TheVariants as Ops
 use Rattle.og_model.specs.declared.FaultKind.TheVariants as Faults
 use Rattle.og_model.specs.Shown.{Shown}
-use Rattle.og_model_examples.specs.Words.{handler, go_a, at, name_idle, name_u, name_i, name_x, type_byte, whole, plain, literal, number, constant, computed, decided, set, state, basic, from_first, body, next, input, provided, send, send_done, model, model_with, sent, sent_done, rests, faults, runs_on, idle}
+use Rattle.og_model_examples.specs.Words.{handler, at, name_idle, name_u, name_i, name_x, type_byte, whole, plain, literal, number, constant, computed, decided, set, state, basic, from_first, body, next, input, provided, send, send_done, model, model_with, sent, sent_done, rests, faults, runs_on, idle}
 
 -- a comparison of `x`
 abbrev pub x_is : BinaryOp → ℕ → Expr
@@ -109,3 +109,23 @@ lower_first = model_with [] (plain name_x type_byte ∷ []) []
 
 abbrev pub lower_first_trace : List Shown
 lower_first_trace = rests [] idle (whole 0 ∷ []) [] ∷ rests (sent 1 ∷ []) idle (whole 0 ∷ []) [] ∷ []
+
+-- DCL x Byte;
+-- START; NEXTSTATE u;
+-- STATE u; INPUT go; TASK x := 1; NEXTSTATE -; PROVIDED x = 1; OUTPUT num(2); TASK x := 0; NEXTSTATE idle; ENDSTATE;
+-- STATE u; SUBSTRUCTURE START; NEXTSTATE i; STATE i; PROVIDED x = 1; OUTPUT num(1); TASK x := 2; NEXTSTATE -; ENDSTATE; ENDSUBSTRUCTURE;
+-- STATE idle; ENDSTATE;
+abbrev pub outer_first : Model
+outer_first = model_with [] (plain name_x type_byte ∷ []) []
+    (from_first
+    (state name_u (Kinds.Composite None None (from_first
+    (basic name_i (provided (at 5 52) None (x_is Ops.Eq 1) 1 ∷ []) ∷ [])
+    (body (send 1 ∷ set (at 5 88) 0 (literal 2) ∷ []) Ends.Dash ∷ [])))
+    (input 0 1 ∷ provided (at 4 46) None (x_is Ops.Eq 1) 2 ∷ [])
+    ∷ basic name_idle [] ∷ [])
+    (body (set (at 4 25) 0 (literal 1) ∷ []) Ends.Dash
+    ∷ body (send 2 ∷ set (at 4 82) 0 (literal 0) ∷ []) (next 1) ∷ []))
+
+-- the outer one stands earlier in the text
+abbrev pub outer_first_trace : List Shown
+outer_first_trace = rests [] ((name_u ∷ name_i ∷ []) ∷ []) (whole 0 ∷ []) [] ∷ rests (sent 2 ∷ []) idle (whole 0 ∷ []) [] ∷ []

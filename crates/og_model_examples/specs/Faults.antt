@@ -13,7 +13,7 @@ use Rattle.og_model.specs.declared.BinaryOp.TheVariants as Ops
 use Rattle.og_model.specs.declared.FaultKind.TheVariants as Kinds
 use Rattle.og_model.specs.Shown.{Shown, Stimulus, Event}
 use Rattle.og_model.specs.Shown as Shows
-use Rattle.og_model_examples.specs.Words.{at, somewhere, name_idle, name_x, name_y, name_z, name_f, name_g, type_byte, type_big, type_truth, whole, wholes, no, declared, plain, integer, literal, number, truth_at, variable, computed, decided, step, set, send, send_done, basic, from_first, body, next, scope, input, model_with, go, go_next, sent, rests, faults, idle}
+use Rattle.og_model_examples.specs.Words.{runs_on, at, somewhere, name_idle, name_x, name_y, name_z, name_f, name_g, type_byte, type_big, type_truth, whole, wholes, no, declared, plain, integer, literal, number, truth_at, variable, computed, decided, step, set, send, send_done, basic, from_first, body, next, scope, input, model_with, go, go_next, sent, rests, faults, idle}
 
 -- DCL x Byte := 255;
 -- START; NEXTSTATE idle;
@@ -43,6 +43,10 @@ counting_twice = model_with [] (declared name_x type_byte (whole 254) ∷ plain 
 abbrev pub counting_twice_trace : List Shown
 counting_twice_trace = rests [] idle (wholes (254 ∷ 0 ∷ [])) []
     ∷ faults (sent 1 ∷ []) Kinds.Range (at 4 63) (wholes (255 ∷ 7 ∷ [])) [] ∷ []
+
+-- a fault in the last unit is a fault, and one unit less is not enough to reach it
+abbrev pub counting_in_3_trace : List Shown
+counting_in_3_trace = rests [] idle (wholes (254 ∷ 0 ∷ [])) [] ∷ runs_on (sent 1 ∷ []) ∷ []
 
 -- ---- numbers
 

@@ -10,7 +10,7 @@ use Rattle.og_model.specs.declared.Trigger.TheVariants as Triggers
 use Rattle.og_model.specs.declared.VarId.TheVariants as Vars
 use Rattle.og_model.specs.declared.FaultKind.TheVariants as Faults
 use Rattle.og_model.specs.Shown.{Shown, Stimulus}
-use Rattle.og_model_examples.specs.Words.{at, name_x, type_small, whole, plain, handler, go_a, faults, name_idle, name_u, name_i, name_j, name_w, name_k, name_l, name_fail, name_entry, name_exit, state, basic, scope, from_first, body, connection, next, input, connect, sending, send, model, model_with, go, go_next, go_done, sent, rests, idle}
+use Rattle.og_model_examples.specs.Words.{runs_on, returning, at, name_x, type_small, whole, plain, handler, go_a, faults, name_idle, name_u, name_i, name_j, name_w, name_k, name_l, name_fail, name_entry, name_exit, state, basic, scope, from_first, body, connection, next, input, connect, sending, send, model, model_with, go, go_next, go_done, sent, rests, idle}
 
 -- a composite state without `entry` and `exit`
 abbrev pub holding : Scope → StateKind
@@ -167,3 +167,18 @@ starting_inside = model (scope (state name_u (holding two_starts) (input 1 1 ∷
 abbrev pub starting_inside_trace : List Shown
 starting_inside_trace = rests (sent 1 ∷ []) ((name_u ∷ name_j ∷ []) ∷ []) [] []
     ∷ rests [] ((name_u ∷ name_i ∷ []) ∷ []) [] [] ∷ []
+
+-- STATE u; SUBSTRUCTURE START; RETURN; ENDSUBSTRUCTURE;
+-- START; NEXTSTATE u;
+-- STATE u; CONNECT; OUTPUT num(1); NEXTSTATE -; ENDSTATE;
+abbrev pub completing_for_ever : Model
+completing_for_ever = model (from_first
+    (state name_u (holding (scope [] (body [] returning ∷ []))) (connect None 1 ∷ []) ∷ [])
+    (body (send 1 ∷ []) Ends.Dash ∷ []))
+
+-- the dash enters `u` anew, which is completed at once; a round takes four units, for entering, RETURN, OUTPUT and the dash
+abbrev pub completing_for_ever_in_7 : List Shown
+completing_for_ever_in_7 = runs_on (sent 1 ∷ []) ∷ []
+
+abbrev pub completing_for_ever_in_8 : List Shown
+completing_for_ever_in_8 = runs_on (sent 1 ∷ sent 1 ∷ []) ∷ []

@@ -146,6 +146,43 @@ calling = model_with [] (plain name_x type_byte ∷ []) (twice ∷ [])
 abbrev pub calling_trace : List Shown
 calling_trace = rests [] idle (whole 6 ∷ []) [] ∷ faults [] Kinds.Range (at 3 51) (whole 200 ∷ []) [] ∷ []
 
+-- PROCEDURE q; FPAR IN/OUT v Byte; START; TASK v := v + 1; RETURN; ENDPROCEDURE;
+-- PROCEDURE k; FPAR IN/OUT v Byte; DCL y Byte := 3; START; CALL q(v); CALL q(y); TASK v := v + y; RETURN; ENDPROCEDURE;
+abbrev pub increasing : Proc
+increasing = record {
+  name = name_q;
+  place = somewhere;
+  formals = record { name = name_v; sort = type_byte; bound = true } ∷ [];
+  locals = plain name_v type_byte ∷ [];
+  result = None;
+  bodies = body (step somewhere (Actions.Assign (local 0) (computed Ops.Add (number_at (local 0)) (literal 1))) ∷ []) returning ∷ [];
+}
+
+abbrev pub handing_on : Proc
+handing_on = record {
+  name = name_k;
+  place = somewhere;
+  formals = record { name = name_v; sort = type_byte; bound = true } ∷ [];
+  locals = plain name_v type_byte ∷ declared name_y type_byte (whole 3) ∷ [];
+  result = None;
+  bodies = body
+      (step somewhere (Actions.Call 0 (Args.Bind (Vars.Local 0) ∷ []) None)
+      ∷ step somewhere (Actions.Call 0 (Args.Bind (Vars.Local 1) ∷ []) None)
+      ∷ step somewhere (Actions.Assign (local 0) (computed Ops.Add (number_at (local 0)) (number_at (local 1)))) ∷ [])
+      returning ∷ [];
+}
+
+-- DCL x Byte := 10;
+-- START; CALL k(x); NEXTSTATE idle;
+-- STATE idle; ENDSTATE;
+abbrev pub calling_inward : Model
+calling_inward = model_with [] (declared name_x type_byte (whole 10) ∷ []) (increasing ∷ handing_on ∷ [])
+    (scope (basic name_idle [] ∷ []) (body (step somewhere (Actions.Call 1 (Args.Bind (Vars.Process 0) ∷ []) None) ∷ []) (next 0) ∷ []))
+
+-- `x` is 11 and `y` is 4 before they are added
+abbrev pub calling_inward_trace : List Shown
+calling_inward_trace = rests [] idle (whole 15 ∷ []) [] ∷ []
+
 -- ---- decisions and labels
 
 -- DCL x Byte;

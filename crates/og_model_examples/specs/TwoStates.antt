@@ -1,4 +1,4 @@
--- Signals, basic states and STOP (Z.101 sections 11.2, 11.8 and 11.11): a signal that no state takes is discarded, and a
+-- Signals, basic states and STOP (Z.101 sections 11.2, 11.8 and 11.12.2): a signal that no state takes is discarded, and a
 -- process that has stopped takes nothing more.
 use Rattle.std.specs.Prelude.{List, [], ◌∷◌, Some}
 use Rattle.og_model.specs.declared.Model.{Model}

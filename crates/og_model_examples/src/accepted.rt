@@ -8,7 +8,7 @@ ghost use Rattle.og_model_examples.specs.Procedures as Procedures;
 ghost use Rattle.og_model_examples.specs.Nested as Nested;
 ghost use Rattle.og_model_examples.specs.Aggregations as Aggregations;
 ghost use Rattle.og_model_examples.specs.Timers.{timing, without_handler};
-ghost use Rattle.og_model_examples.specs.Continuous.{by_place, by_priority, lower_first, failing_condition, without_rest};
+ghost use Rattle.og_model_examples.specs.Continuous.{by_place, by_priority, lower_first, outer_first, failing_condition, without_rest};
 ghost use Rattle.og_model_examples.specs.Data as Data;
 
 /// Basic states and data.
@@ -36,6 +36,7 @@ pub fn procedures_are_accepted()
     ensures calling { IsWellFormed Procedures.calling }
     ensures deciding { IsWellFormed Procedures.deciding }
     ensures joining_for_ever { IsWellFormed Procedures.joining_for_ever }
+    ensures calling_inward { IsWellFormed Procedures.calling_inward }
     ensures joining { IsWellFormed Procedures.joining }
 {}
 
@@ -49,6 +50,7 @@ pub fn nested_states_are_accepted()
     ensures starting_inside { IsWellFormed Nested.starting_inside }
     ensures stopping_partition { IsWellFormed Aggregations.stopping }
     ensures done_at_once { IsWellFormed Aggregations.done_at_once }
+    ensures completing_for_ever { IsWellFormed Nested.completing_for_ever }
     ensures guarded { IsWellFormed Nested.guarded }
     ensures aggregation { IsWellFormed Aggregations.completing }
     ensures failing_exit { IsWellFormed Aggregations.failing_exit }
@@ -62,6 +64,7 @@ pub fn other_stimuli_are_accepted()
     ensures without_handler { IsWellFormed without_handler }
     ensures by_place { IsWellFormed by_place }
     ensures by_priority { IsWellFormed by_priority }
+    ensures outer_first { IsWellFormed outer_first }
     ensures lower_first { IsWellFormed lower_first }
     ensures failing_condition { IsWellFormed failing_condition }
     ensures without_rest { IsWellFormed without_rest }

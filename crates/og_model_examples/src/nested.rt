@@ -53,3 +53,9 @@ pub fn aggregations_can_end_while_entered()
     ensures stopped { sdl Aggregations.stopping [] 100 ≡ Aggregations.stopping_trace }
     ensures completed { sdl Aggregations.done_at_once [] 100 ≡ Aggregations.done_at_once_trace }
 {}
+
+/// A dash after CONNECT enters the completed state anew, which may run on for ever.
+pub fn completions_can_run_on()
+    ensures in_7 { sdl Nested.completing_for_ever [] 7 ≡ Nested.completing_for_ever_in_7 }
+    ensures in_8 { sdl Nested.completing_for_ever [] 8 ≡ Nested.completing_for_ever_in_8 }
+{}

@@ -3,11 +3,12 @@
 ghost use Rattle.std.specs.Prelude.{◌≡◌, [], ◌∷◌};
 ghost use Rattle.og_model.specs.Run.{sdl};
 ghost use Rattle.og_model_examples.specs.Words.{go, go_next, go_a};
-ghost use Rattle.og_model_examples.specs.Procedures.{failing_inside, failing_inside_trace, sharing, sharing_stimuli, sharing_trace, receiving, receiving_twice_trace, receiving_small_trace, returning_too_much, returning_too_much_trace, calling, calling_trace, deciding, deciding_stimuli, deciding_trace, joining_for_ever, joining_for_ever_in_4, joining_for_ever_in_5, joining, joining_stimuli, joining_trace, joining_from, joining_from_5_trace, joining_from_7_trace};
+ghost use Rattle.og_model_examples.specs.Procedures.{calling_inward, calling_inward_trace, failing_inside, failing_inside_trace, sharing, sharing_stimuli, sharing_trace, receiving, receiving_twice_trace, receiving_small_trace, returning_too_much, returning_too_much_trace, calling, calling_trace, deciding, deciding_stimuli, deciding_trace, joining_for_ever, joining_for_ever_in_4, joining_for_ever_in_5, joining, joining_stimuli, joining_trace, joining_from, joining_from_5_trace, joining_from_7_trace};
 
 /// An IN/OUT parameter is the variable itself: it stays changed at a fault inside, and each change is seen at once.
 pub fn parameters_are_shared()
     ensures at_a_fault { sdl failing_inside (go ∷ []) 100 ≡ failing_inside_trace }
+    ensures handed_on { sdl calling_inward [] 100 ≡ calling_inward_trace }
     ensures at_once { sdl sharing sharing_stimuli 100 ≡ sharing_trace }
 {}
 

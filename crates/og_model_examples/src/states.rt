@@ -4,7 +4,7 @@ ghost use Rattle.std.specs.Prelude.{◌≡◌, [], ◌∷◌};
 ghost use Rattle.og_model.specs.Run.{sdl};
 ghost use Rattle.og_model_examples.specs.Words.{go};
 ghost use Rattle.og_model_examples.specs.TwoStates.{two_states, started_trace, taken_trace, discarding_stimuli, discarding_trace, one_unit_trace, two_units_trace, stopping, stopping_stimuli, stopping_trace, stopping_with_data, stopping_with_data_stimuli, stopping_with_data_trace, stopping_inside, stopping_inside_trace};
-ghost use Rattle.og_model_examples.specs.Faults.{counting, counting_stimuli, counting_trace, counting_twice, counting_twice_trace, wide, wide_trace, dividing, dividing_trace, both_sides, both_sides_stimuli, both_sides_trace};
+ghost use Rattle.og_model_examples.specs.Faults.{counting, counting_stimuli, counting_trace, counting_twice, counting_twice_trace, counting_in_3_trace, wide, wide_trace, dividing, dividing_trace, both_sides, both_sides_stimuli, both_sides_trace};
 
 /// A signal is taken, and one that the active state does not take is discarded.
 pub fn signals_are_taken_or_discarded()
@@ -17,6 +17,8 @@ pub fn signals_are_taken_or_discarded()
 pub fn units_are_counted()
     ensures two_for_the_start { sdl two_states (go ∷ []) 1 ≡ one_unit_trace }
     ensures three_for_the_signal { sdl two_states (go ∷ []) 2 ≡ two_units_trace }
+    ensures fault_in_the_last { sdl counting_twice (go ∷ []) 4 ≡ counting_twice_trace }
+    ensures one_before_the_fault { sdl counting_twice (go ∷ []) 3 ≡ counting_in_3_trace }
     ensures enough { sdl two_states (go ∷ []) 3 ≡ taken_trace }
 {}
 

@@ -4,7 +4,7 @@ ghost use Rattle.std.specs.Prelude.{◌≡◌, [], ◌∷◌};
 ghost use Rattle.og_model.specs.Run.{sdl};
 ghost use Rattle.og_model_examples.specs.Words.{go, go_a};
 ghost use Rattle.og_model_examples.specs.Timers.{timing, timing_stimuli, timing_trace, expires, without_handler, without_handler_trace};
-ghost use Rattle.og_model_examples.specs.Continuous.{by_place, by_place_trace, by_priority, by_priority_trace, lower_first, lower_first_trace, failing_condition, failing_condition_trace, without_rest, without_rest_in_3, without_rest_in_11, without_rest_in_12};
+ghost use Rattle.og_model_examples.specs.Continuous.{by_place, by_place_trace, by_priority, by_priority_trace, lower_first, lower_first_trace, outer_first, outer_first_trace, failing_condition, failing_condition_trace, without_rest, without_rest_in_3, without_rest_in_11, without_rest_in_12};
 
 /// A timer is set, reset and expires; an expiry of a timer that is not active is discarded.
 pub fn timers_expire_once()
@@ -15,6 +15,7 @@ pub fn timers_expire_once()
 /// Continuous signals are tested by priority and then by place; a fault has the place of PROVIDED.
 pub fn continuous_signals_have_an_order()
     ensures by_their_place { sdl by_place (go ∷ []) 100 ≡ by_place_trace }
+    ensures outer_before_inner { sdl outer_first (go ∷ []) 100 ≡ outer_first_trace }
     ensures by_their_priority { sdl by_priority (go ∷ []) 100 ≡ by_priority_trace }
     ensures after_an_input { sdl lower_first (go_a 5 ∷ []) 100 ≡ lower_first_trace }
     ensures failing { sdl failing_condition (go ∷ []) 100 ≡ failing_condition_trace }
