@@ -3,7 +3,7 @@
 -- of pieces, the innermost first. Departing from Z.100, values are tested against their types at each assignment,
 -- output, argument and result, a timer is set with a duration, and a fault ends the run: it changes nothing further.
 -- A procedure runs as part of its caller's transition. An IN parameter is a copy, an IN/OUT parameter is the caller's
--- variable itself. On a tree that no text gives the units run out.
+-- variable itself. On a tree that no text gives mostly the units run out.
 use Rattle.std.specs.Prelude.{ℕ, zero, suc, Bool, true, false, cond, List, [], ◌∷◌, ◌++◌, length, take, slice_get, slice_set, ℤ, pos, nat_lt, nat_eq, Option, Some, None, Result, Ok, Err}
 use Rattle.std.specs.List.{list_any}
 use Rattle.std.specs.Option.{option_map, option_or}

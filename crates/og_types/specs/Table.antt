@@ -1,4 +1,4 @@
--- Which lists of types are tables of types. The types are those of a subset of ASN.1 (X.680 sections 19 to 25 and 29). A type
+-- Which lists of types are tables of types. The types are those of a subset of ASN.1 (X.680 sections 18 to 20, 25, 26 and 29). A type
 -- refers to smaller numbers only, so no type holds itself. The limits on depth, on the length of sequences of items and on
 -- the range of numbers are this project's own.
 use Rattle.std.specs.Prelude.{ℕ, zero, suc, ◌+◌, Bool, true, false, not, ◌&&◌, List, [], ◌∷◌, length, max, slice_get, ℤ, pos, negsuc, int_le, nat_lt, nat_le, nat_eq, Option, Some}
