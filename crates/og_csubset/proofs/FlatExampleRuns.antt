@@ -3,6 +3,7 @@ use Rattle.std.specs.Prelude.{refl}
 use Rattle.std.proofs.Common.{arith}
 use Rattle.std.specs.Fmt.{digits}
 use Rattle.og_types.specs.declared.Value.{out-Value}
+use Rattle.og_model.proofs.Computing.{trees}
 use Rattle.og_ir.specs.declared.Flat.{out-Flat, roll-Flat}
 use Rattle.og_ir.specs.declared.Flat.TheBlock as block
 use Rattle.og_ir.specs.Reading.{value_in, blank}
@@ -15,51 +16,52 @@ use denote.Hole.Rolled
 use denote.Hole.Carrier
 
 pub numbers_are_unbounded : NumbersAreUnbounded
-unfolding flat flat_in_64_bits event_of end_of value_in blank value_of is_number depth_of digits out-Flat roll-Flat out-Value block.the_depth Rolled.depth Carrier.fold Carrier.roll Carrier.out block.shape-the_row-Step2-0 block.hidden-the_row-Step2-0 block.shown-the_row-Step2-0 block.shape-the_row-Flat-1 block.hidden-the_row-Flat-1 block.shown-the_row-Flat-1 Carrier.hidden Carrier.shown
+unfolding trees flat flat_in_64_bits event_of end_of value_in blank value_of is_number depth_of digits out-Flat roll-Flat out-Value block.the_depth Rolled.depth Carrier.fold Carrier.roll Carrier.out block.shape-the_row-Step2-0 block.hidden-the_row-Step2-0 block.shown-the_row-Step2-0 block.shape-the_row-Flat-1 block.hidden-the_row-Flat-1 block.shown-the_row-Flat-1 Carrier.hidden Carrier.shown
 numbers_are_unbounded = refl
 
 pub numbers_of_64_bits : NumbersOf64Bits
-unfolding flat flat_in_64_bits event_of end_of value_in blank value_of is_number depth_of digits out-Flat roll-Flat out-Value block.the_depth Rolled.depth Carrier.fold Carrier.roll Carrier.out block.shape-the_row-Step2-0 block.hidden-the_row-Step2-0 block.shown-the_row-Step2-0 block.shape-the_row-Flat-1 block.hidden-the_row-Flat-1 block.shown-the_row-Flat-1 Carrier.hidden Carrier.shown
+unfolding trees flat flat_in_64_bits event_of end_of value_in blank value_of is_number depth_of digits out-Flat roll-Flat out-Value block.the_depth Rolled.depth Carrier.fold Carrier.roll Carrier.out block.shape-the_row-Step2-0 block.hidden-the_row-Step2-0 block.shown-the_row-Step2-0 block.shape-the_row-Flat-1 block.hidden-the_row-Flat-1 block.shown-the_row-Flat-1 Carrier.hidden Carrier.shown
 numbers_of_64_bits = refl
 
 pub index_is_outside : IndexIsOutside
-unfolding flat flat_in_64_bits event_of end_of value_in blank value_of is_number depth_of digits out-Flat roll-Flat out-Value block.the_depth Rolled.depth Carrier.fold Carrier.roll Carrier.out block.shape-the_row-Step2-0 block.hidden-the_row-Step2-0 block.shown-the_row-Step2-0 block.shape-the_row-Flat-1 block.hidden-the_row-Flat-1 block.shown-the_row-Flat-1 Carrier.hidden Carrier.shown
+unfolding trees flat flat_in_64_bits event_of end_of value_in blank value_of is_number depth_of digits out-Flat roll-Flat out-Value block.the_depth Rolled.depth Carrier.fold Carrier.roll Carrier.out block.shape-the_row-Step2-0 block.hidden-the_row-Step2-0 block.shown-the_row-Step2-0 block.shape-the_row-Flat-1 block.hidden-the_row-Flat-1 block.shown-the_row-Flat-1 Carrier.hidden Carrier.shown
 index_is_outside = refl
 
 pub divisor_is_zero : DivisorIsZero
-unfolding flat flat_in_64_bits event_of end_of value_in blank value_of is_number depth_of digits out-Flat roll-Flat out-Value block.the_depth Rolled.depth Carrier.fold Carrier.roll Carrier.out block.shape-the_row-Step2-0 block.hidden-the_row-Step2-0 block.shown-the_row-Step2-0 block.shape-the_row-Flat-1 block.hidden-the_row-Flat-1 block.shown-the_row-Flat-1 Carrier.hidden Carrier.shown
+unfolding trees flat flat_in_64_bits event_of end_of value_in blank value_of is_number depth_of digits out-Flat roll-Flat out-Value block.the_depth Rolled.depth Carrier.fold Carrier.roll Carrier.out block.shape-the_row-Step2-0 block.hidden-the_row-Step2-0 block.shown-the_row-Step2-0 block.shape-the_row-Flat-1 block.hidden-the_row-Flat-1 block.shown-the_row-Flat-1 Carrier.hidden Carrier.shown
 divisor_is_zero = refl
 
 pub copies_items : CopiesItems
-unfolding flat flat_in_64_bits event_of end_of value_in blank value_of is_number depth_of digits out-Flat roll-Flat out-Value block.the_depth Rolled.depth Carrier.fold Carrier.roll Carrier.out block.shape-the_row-Step2-0 block.hidden-the_row-Step2-0 block.shown-the_row-Step2-0 block.shape-the_row-Flat-1 block.hidden-the_row-Flat-1 block.shown-the_row-Flat-1 Carrier.hidden Carrier.shown
+unfolding trees flat flat_in_64_bits event_of end_of value_in blank value_of is_number depth_of digits out-Flat roll-Flat out-Value block.the_depth Rolled.depth Carrier.fold Carrier.roll Carrier.out block.shape-the_row-Step2-0 block.hidden-the_row-Step2-0 block.shown-the_row-Step2-0 block.shape-the_row-Flat-1 block.hidden-the_row-Flat-1 block.shown-the_row-Flat-1 Carrier.hidden Carrier.shown
 copies_items = refl
 
 pub calls_twice : CallsTwice
-unfolding flat flat_in_64_bits event_of end_of value_in blank value_of is_number depth_of digits out-Flat roll-Flat out-Value block.the_depth Rolled.depth Carrier.fold Carrier.roll Carrier.out block.shape-the_row-Step2-0 block.hidden-the_row-Step2-0 block.shown-the_row-Step2-0 block.shape-the_row-Flat-1 block.hidden-the_row-Flat-1 block.shown-the_row-Flat-1 Carrier.hidden Carrier.shown
+unfolding trees flat flat_in_64_bits event_of end_of value_in blank value_of is_number depth_of digits out-Flat roll-Flat out-Value block.the_depth Rolled.depth Carrier.fold Carrier.roll Carrier.out block.shape-the_row-Step2-0 block.hidden-the_row-Step2-0 block.shown-the_row-Step2-0 block.shape-the_row-Flat-1 block.hidden-the_row-Flat-1 block.shown-the_row-Flat-1 Carrier.hidden Carrier.shown
 calls_twice = refl
 
 pub cut_in_a_call : CutInACall
-unfolding flat flat_in_64_bits event_of end_of value_in blank value_of is_number depth_of digits out-Flat roll-Flat out-Value block.the_depth Rolled.depth Carrier.fold Carrier.roll Carrier.out block.shape-the_row-Step2-0 block.hidden-the_row-Step2-0 block.shown-the_row-Step2-0 block.shape-the_row-Flat-1 block.hidden-the_row-Flat-1 block.shown-the_row-Flat-1 Carrier.hidden Carrier.shown
+unfolding trees flat flat_in_64_bits event_of end_of value_in blank value_of is_number depth_of digits out-Flat roll-Flat out-Value block.the_depth Rolled.depth Carrier.fold Carrier.roll Carrier.out block.shape-the_row-Step2-0 block.hidden-the_row-Step2-0 block.shown-the_row-Step2-0 block.shape-the_row-Flat-1 block.hidden-the_row-Flat-1 block.shown-the_row-Flat-1 Carrier.hidden Carrier.shown
 cut_in_a_call = refl
 
 pub table_takes_a_case : TableTakesACase
-unfolding flat flat_in_64_bits event_of end_of value_in blank value_of is_number depth_of digits out-Flat roll-Flat out-Value block.the_depth Rolled.depth Carrier.fold Carrier.roll Carrier.out block.shape-the_row-Step2-0 block.hidden-the_row-Step2-0 block.shown-the_row-Step2-0 block.shape-the_row-Flat-1 block.hidden-the_row-Flat-1 block.shown-the_row-Flat-1 Carrier.hidden Carrier.shown
+unfolding trees flat flat_in_64_bits event_of end_of value_in blank value_of is_number depth_of digits out-Flat roll-Flat out-Value block.the_depth Rolled.depth Carrier.fold Carrier.roll Carrier.out block.shape-the_row-Step2-0 block.hidden-the_row-Step2-0 block.shown-the_row-Step2-0 block.shape-the_row-Flat-1 block.hidden-the_row-Flat-1 block.shown-the_row-Flat-1 Carrier.hidden Carrier.shown
 table_takes_a_case = refl
 
 pub table_takes_the_last : TableTakesTheLast
-unfolding flat flat_in_64_bits event_of end_of value_in blank value_of is_number depth_of digits out-Flat roll-Flat out-Value block.the_depth Rolled.depth Carrier.fold Carrier.roll Carrier.out block.shape-the_row-Step2-0 block.hidden-the_row-Step2-0 block.shown-the_row-Step2-0 block.shape-the_row-Flat-1 block.hidden-the_row-Flat-1 block.shown-the_row-Flat-1 Carrier.hidden Carrier.shown
+unfolding trees flat flat_in_64_bits event_of end_of value_in blank value_of is_number depth_of digits out-Flat roll-Flat out-Value block.the_depth Rolled.depth Carrier.fold Carrier.roll Carrier.out block.shape-the_row-Step2-0 block.hidden-the_row-Step2-0 block.shown-the_row-Step2-0 block.shape-the_row-Flat-1 block.hidden-the_row-Flat-1 block.shown-the_row-Flat-1 Carrier.hidden Carrier.shown
 table_takes_the_last = refl
 
 pub counts_and_leaves_its_type : CountsAndLeavesItsType
-unfolding flat flat_in_64_bits event_of end_of value_in blank value_of is_number depth_of digits out-Flat roll-Flat out-Value block.the_depth Rolled.depth Carrier.fold Carrier.roll Carrier.out block.shape-the_row-Step2-0 block.hidden-the_row-Step2-0 block.shown-the_row-Step2-0 block.shape-the_row-Flat-1 block.hidden-the_row-Flat-1 block.shown-the_row-Flat-1 Carrier.hidden Carrier.shown
+unfolding trees flat flat_in_64_bits event_of end_of value_in blank value_of is_number depth_of digits out-Flat roll-Flat out-Value block.the_depth Rolled.depth Carrier.fold Carrier.roll Carrier.out block.shape-the_row-Step2-0 block.hidden-the_row-Step2-0 block.shown-the_row-Step2-0 block.shape-the_row-Flat-1 block.hidden-the_row-Flat-1 block.shown-the_row-Flat-1 Carrier.hidden Carrier.shown
 counts_and_leaves_its_type = refl
 
 pub counting_is_fair : CountingIsFair
-unfolding flat flat_in_64_bits event_of end_of value_in blank value_of is_number depth_of digits out-Flat roll-Flat out-Value block.the_depth Rolled.depth Carrier.fold Carrier.roll Carrier.out block.shape-the_row-Step2-0 block.hidden-the_row-Step2-0 block.shown-the_row-Step2-0 block.shape-the_row-Flat-1 block.hidden-the_row-Flat-1 block.shown-the_row-Flat-1 Carrier.hidden Carrier.shown
+unfolding trees flat flat_in_64_bits event_of end_of value_in blank value_of is_number depth_of digits out-Flat roll-Flat out-Value block.the_depth Rolled.depth Carrier.fold Carrier.roll Carrier.out block.shape-the_row-Step2-0 block.hidden-the_row-Step2-0 block.shown-the_row-Step2-0 block.shape-the_row-Flat-1 block.hidden-the_row-Flat-1 block.shown-the_row-Flat-1 Carrier.hidden Carrier.shown
 counting_is_fair = record {
   right = refl;
   names = refl;
   differ = refl;
+  labels = refl;
   small = omega arith;
   shallow = refl;
   control = refl;

@@ -11,7 +11,7 @@ use Rattle.og_model.specs.declared.Signal.{Signal}
 use Rattle.og_model.specs.Shown as shown
 use Rattle.og_model.specs.Shown.{Shown, Stimulus, Begins, has_past, has_stuck}
 use Rattle.og_model.specs.Run.{sdl}
-use Rattle.og_model.specs.RegionTypes.{Region}
+use Rattle.og_model.specs.Size.{bulk}
 use Rattle.og_csubset.specs.declared.CProgram.{CProgram}
 use Rattle.og_csubset.specs.Kinds.{total}
 use Rattle.og_csubset.specs.Loading.{Loads}
@@ -26,8 +26,8 @@ abbrev pub enough : CProgram → ℕ → ℕ
 enough program n = n * (size program + 1)
 
 -- the size is bounded by that of the model
-abbrev pub IsBrief : ℕ → CProgram → Type 0
-IsBrief bulk program = size program ≤ 800 * bulk
+abbrev pub IsBrief : Model → CProgram → Type 0
+IsBrief model program = size program ≤ 800 * bulk model
 
 -- as many values as types, each in its type
 abbrev pub are_in : Model → List TypeId → List Value → Bool
@@ -63,6 +63,6 @@ pub record SameRuns (Are : List Stimulus → Type 0) (enough : ℕ → ℕ) (mea
   pub so_far_only : (stimuli : List Stimulus) → Are stimuli → (m : ℕ) → (n : ℕ) × (1 ≤ n) × Begins (code stimuli m) (meaning stimuli n)
 
 -- the program loads with the model, and does what the model does
-pub record SameBehaviour (model : Model) (regions : List Region) (program : CProgram) : Type 0 where
-  pub loads : Loads program model regions
-  pub runs : SameRuns (AreStimuli model) (enough program) (sdl model) (c program model regions)
+pub record SameBehaviour (model : Model) (program : CProgram) : Type 0 where
+  pub loads : Loads program model
+  pub runs : SameRuns (AreStimuli model) (enough program) (sdl model) (c program model)

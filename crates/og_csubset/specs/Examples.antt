@@ -1,10 +1,8 @@
 -- Programs of the C subset over small models, with what they show, worked out by hand.
-use Rattle.std.specs.Prelude.{◌≡◌, ℕ, ◌-◌, ◌^◌, ℤ, pos, negsuc, List, [], ◌∷◌, ◌++◌, Bool, true, false, Option, Some, None, codes, replicate}
-use Rattle.og_base.specs.declared.Place.{Place}
+use Rattle.std.specs.Prelude.{◌≡◌, ℕ, ◌-◌, ◌^◌, ℤ, pos, negsuc, List, [], ◌∷◌, ◌++◌, true, false, Some, None, codes}
 use Rattle.og_names.specs.declared.NameId.{NameId}
 use Rattle.og_names.specs.declared.Word.{Word}
 use Rattle.og_types.specs.declared.TypeId.{TypeId}
-use Rattle.og_types.specs.declared.Part.{Part}
 use Rattle.og_types.specs.declared.Sort.{Sort}
 use Rattle.og_types.specs.declared.Sort.TheVariants as sort
 use Rattle.og_types.specs.declared.Value.{Value}
@@ -12,25 +10,22 @@ use Rattle.og_types.specs.declared.Value.TheVariants as value
 use Rattle.og_model.specs.declared.Model.{Model}
 use Rattle.og_model.specs.declared.Signal.{Signal}
 use Rattle.og_model.specs.declared.Variable.{Variable}
-use Rattle.og_model.specs.declared.Scope.{Scope, roll-Scope}
+use Rattle.og_model.specs.declared.Scope.{roll-Scope}
+use Rattle.og_model.specs.declared.StateKind.{roll-StateKind}
+use Rattle.og_model.specs.declared.StateKind.TheOpen.{Basic}
 use Rattle.og_model.specs.declared.FaultKind.TheVariants as fault
 use Rattle.og_model.specs.declared.StuckRule.{StuckRule}
 use Rattle.og_model.specs.declared.StuckRule.TheVariants as stuck
-use Rattle.og_model.specs.RegionTypes.{Region, Leaf}
 use Rattle.og_model.specs.Shown as shown
 use Rattle.og_model.specs.Shown.{Event, Shown, Stimulus, Signal as Sent, Rest, Past, Stuck}
 use Rattle.og_csubset.specs.declared.CProgram.{CProgram}
 use Rattle.og_csubset.specs.declared.CStruct.{CStruct}
-use Rattle.og_csubset.specs.declared.CMember.{CMember}
 use Rattle.og_csubset.specs.declared.CGlobal.{CGlobal}
-use Rattle.og_csubset.specs.declared.CType.{CType}
 use Rattle.og_csubset.specs.declared.CType.TheVariants.{Int64, Struct}
 use Rattle.og_csubset.specs.declared.CFunction.{CFunction}
 use Rattle.og_csubset.specs.declared.CStmt.{CStmt}
-use Rattle.og_csubset.specs.declared.CStmt.TheVariants.{Assign, IfGoto, Goto, Label, Switch, Call, Return}
-use Rattle.og_csubset.specs.declared.CCase.{CCase}
+use Rattle.og_csubset.specs.declared.CStmt.TheVariants.{Assign, Goto, Label, Switch, Call, Return}
 use Rattle.og_csubset.specs.declared.CPlace.{CPlace}
-use Rattle.og_csubset.specs.declared.CStep.{CStep}
 use Rattle.og_csubset.specs.declared.CStep.TheVariants.{Member, At}
 use Rattle.og_csubset.specs.declared.CExpr.{CExpr, roll-CExpr}
 use Rattle.og_csubset.specs.declared.CExpr.TheOpen.{Number, Read, Minus, Op, Pick}
@@ -93,12 +88,8 @@ process names types signals variables = record {
   timers = [];
   variables = variables;
   procs = [];
-  root = roll-Scope (record { states = []; starts = []; bodies = [] });
+  root = roll-Scope (record { states = record { name = name 1; place = record { file = 0; line = 1; column = 1 }; kind = roll-StateKind Basic; handlers = [] } ∷ []; starts = []; bodies = [] });
 }
-
--- the one region of such a process
-abbrev pub one_region : List Region
-one_region = record { path = []; leaves = record { path = name 1 ∷ []; basic = true } ∷ [] } ∷ []
 
 -- at rest in the state
 abbrev pub idle : List Value → shown.End
@@ -131,9 +122,9 @@ hand_written = record {
   functions =
       function (codes "start") (assigns (codes "r") (literal (pos 0)) ∷ assigns (codes "k") (literal (pos 0)) ∷ [])
       ∷ function (codes "on_go")
-        (Assign (record { name = word (codes "w"); path = Member (word (codes "e")) ∷ At (read (codes "k")) ∷ [] }) (literal (pos 1))
-        ∷ assigns (codes "k") (operates op.Add (read (codes "k")) (literal (pos 1)))
-        ∷ Call (word (codes "o_done")) ∷ Call (word (codes "o_done")) ∷ [])
+      (Assign (record { name = word (codes "w"); path = Member (word (codes "e")) ∷ At (read (codes "k")) ∷ [] }) (literal (pos 1))
+      ∷ assigns (codes "k") (operates op.Add (read (codes "k")) (literal (pos 1)))
+      ∷ Call (word (codes "o_done")) ∷ Call (word (codes "o_done")) ∷ [])
       ∷ [];
 }
 
@@ -143,7 +134,7 @@ done = shown.Output 1 []
 -- the third stimulus is stuck at an index
 abbrev pub HandWrittenRuns : Type 0
 HandWrittenRuns =
-    c hand_written go_done one_region (go ∷ go ∷ go ∷ []) 10
+    c hand_written go_done (go ∷ go ∷ go ∷ []) 10
     ≡ shows [] (idle [])
     ∷ shows (done ∷ done ∷ []) (idle [])
     ∷ shows (done ∷ done ∷ []) (idle [])
@@ -152,22 +143,22 @@ HandWrittenRuns =
 
 -- the start has two statements and its end
 abbrev pub CutAtTwo : Type 0
-CutAtTwo = c hand_written go_done one_region (go ∷ go ∷ go ∷ []) 2 ≡ shows [] Past ∷ []
+CutAtTwo = c hand_written go_done (go ∷ go ∷ go ∷ []) 2 ≡ shows [] Past ∷ []
 
 -- the second output is the fourth statement, and the end of the function would be the fifth
 abbrev pub CutAtFour : Type 0
 CutAtFour =
-    c hand_written go_done one_region (go ∷ go ∷ go ∷ []) 4
+    c hand_written go_done (go ∷ go ∷ go ∷ []) 4
     ≡ shows [] (idle []) ∷ shows (done ∷ done ∷ []) Past ∷ []
 
 -- with one statement more nothing is cut but the third stimulus, which is stuck at its first statement
 abbrev pub CutAtNone : Type 0
 CutAtNone =
-    c hand_written go_done one_region (go ∷ go ∷ go ∷ []) 5
-    ≡ c hand_written go_done one_region (go ∷ go ∷ go ∷ []) 10
+    c hand_written go_done (go ∷ go ∷ go ∷ []) 5
+    ≡ c hand_written go_done (go ∷ go ∷ go ∷ []) 10
 
 abbrev pub HandWrittenLoads : Type 0
-HandWrittenLoads = first_load_rule hand_written go_done one_region ≡ None
+HandWrittenLoads = first_load_rule hand_written go_done ≡ None
 
 -- ---- single statements, over a process with the variables x and l
 
@@ -211,7 +202,7 @@ program start on_go = record {
 
 -- what the start shows with at most 20 statements
 abbrev pub start_of : List CStmt → List Shown
-start_of start = c (program start []) with_variables one_region [] 20
+start_of start = c (program start []) with_variables [] 20
 
 abbrev pub member : List ℕ → List ℕ → CPlace
 member name m = record { name = word name; path = Member (word m) ∷ [] }
@@ -317,8 +308,8 @@ abbrev pub switching : ℕ → List CStmt
 switching n =
     assigns x (int n)
     ∷ Switch (read x)
-      (record { value = pos 1; label = word (codes "a") } ∷ record { value = pos 2; label = word (codes "b") } ∷ [])
-      (word (codes "d"))
+    (record { value = pos 1; label = word (codes "a") } ∷ record { value = pos 2; label = word (codes "b") } ∷ [])
+    (word (codes "d"))
     ∷ Label (word (codes "a")) ∷ assigns x (int 1) ∷ Return
     ∷ Label (word (codes "b")) ∷ assigns x (int 8) ∷ Return
     ∷ Label (word (codes "d")) ∷ assigns x (int 9) ∷ []
@@ -365,7 +356,7 @@ OutputOutOfRange = start_of outputs ≡ shows (num 3 ∷ []) (Stuck stuck.Value)
 
 -- the same, cut before the second output: it is not looked at
 abbrev pub CutBeforeAnOutput : Type 0
-CutBeforeAnOutput = c (program outputs []) with_variables one_region [] 3 ≡ shows (num 3 ∷ []) Past ∷ []
+CutBeforeAnOutput = c (program outputs []) with_variables [] 3 ≡ shows (num 3 ∷ []) Past ∷ []
 
 -- f_kind = 3; f_file = 0; f_line = 4; f_column = 28; x = 2;
 abbrev pub faults : ℕ → List CStmt
@@ -375,7 +366,7 @@ faults kind =
 
 abbrev pub EndsWithAFault : Type 0
 EndsWithAFault =
-    c (program (faults 3) []) with_variables one_region (go ∷ []) 20
+    c (program (faults 3) []) with_variables (go ∷ []) 20
     ≡ shows [] (shown.Fault fault.Division (record { file = 0; line = 4; column = 28 }) (value.Int (pos 2) ∷ value.SeqOf [] ∷ []) []) ∷ []
 
 abbrev pub NoSuchFault : Type 0
@@ -384,7 +375,7 @@ NoSuchFault = start_of (faults 6) ≡ stuck_by stuck.Value
 -- stopped = -1; and then, for go, x = 5;
 abbrev pub CalledAfterStop : Type 0
 CalledAfterStop =
-    c (program (assigns (codes "stopped") minus_one ∷ []) (assigns x (int 5) ∷ [])) with_variables one_region (go ∷ []) 20
+    c (program (assigns (codes "stopped") minus_one ∷ []) (assigns x (int 5) ∷ [])) with_variables (go ∷ []) 20
     ≡ shows [] (shown.Stopped (value.Int (pos 0) ∷ value.SeqOf [] ∷ []))
     ∷ shows [] (shown.Stopped (value.Int (pos 5) ∷ value.SeqOf [] ∷ []))
     ∷ []
@@ -397,14 +388,14 @@ RunsOn =
 -- ---- a program for each rule that it can break
 
 abbrev pub breaks : CProgram → LoadRule → Type 0
-breaks P broken = first_load_rule P with_variables one_region ≡ Some broken
+breaks P broken = first_load_rule P with_variables ≡ Some broken
 
 -- a program whose start has these statements
 abbrev pub starting : List CStmt → CProgram
 starting start = program start []
 
 abbrev pub NothingToDoLoads : Type 0
-NothingToDoLoads = first_load_rule (starting []) with_variables one_region ≡ None
+NothingToDoLoads = first_load_rule (starting []) with_variables ≡ None
 
 -- int64_t start; beside the function
 abbrev pub BreaksK3 : Type 0
@@ -489,7 +480,7 @@ EventOfAnySignal =
       globals = (starting []).globals ++ struct_global (codes "L") (codes "o_go__1") ∷ [];
       events = word (codes "o_num") ∷ word (codes "o_go") ∷ [];
     })
-    with_variables one_region ≡ None
+    with_variables ≡ None
 
 -- L o_num__1; in place of int64_t o_num__1; and no event o_num
 abbrev pub FieldOfAnotherShape : Type 0
@@ -509,4 +500,4 @@ FieldNotNeeded =
       globals = control_globals ++ number_global (codes "v_x") ∷ struct_global (codes "L") (codes "v_l") ∷ [];
       events = [];
     })
-    with_variables one_region ≡ None
+    with_variables ≡ None

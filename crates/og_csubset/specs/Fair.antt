@@ -3,15 +3,12 @@
 -- model's interface, and it is within the limits of the subset.
 use Rattle.std.specs.Prelude.{◌≡◌, ℕ, zero, suc, ◌+◌, ◌≤◌, max, List, [], ◌∷◌, ◌++◌, Bool, true, false, not, if◌then◌else◌, ◌&&◌, ◌||◌, ◌==◌, nat_lt, nat_le, Option, Some, None, map, take, length, slice_get, IsTrue}
 use Rattle.std.specs.List.{list_all, list_any}
-use Rattle.og_types.specs.declared.Part.{Part}
 use Rattle.og_types.specs.declared.Sort.{Sort}
 use Rattle.og_types.specs.declared.Sort.TheVariants as sort
 use Rattle.og_types.specs.declared.TypeId.{TypeId}
 use Rattle.og_model.specs.declared.Model.{Model}
 use Rattle.og_model.specs.declared.EventId.{EventId}
-use Rattle.og_model.specs.RegionTypes.{Region}
 use Rattle.og_ir.specs.declared.Ir.{Ir}
-use Rattle.og_ir.specs.declared.SlotDef.{SlotDef}
 use Rattle.og_ir.specs.declared.SlotSort.{SlotSort}
 use Rattle.og_ir.specs.declared.SlotSort.TheVariants as slot_sort
 use Rattle.og_ir.specs.declared.FlatFn.{FlatFn}
@@ -23,12 +20,11 @@ use Rattle.og_ir.specs.declared.Step2.TheVariants as step
 use Rattle.og_ir.specs.declared.Flat.{Flat, out-Flat, size-Flat}
 use Rattle.og_ir.specs.declared.Flat.TheOpen as flat
 use Rattle.og_ir.specs.declared.Flat.TheOpen.{Flat-F}
-use Rattle.og_ir.specs.declared.Test.{Test}
 use Rattle.og_ir.specs.declared.Case.{Case}
 use Rattle.og_ir.specs.Cells.{◌>>=◌, count}
 use Rattle.og_ir.specs.Arithmetic.{in_64_bits, is_same}
 use Rattle.og_ir.specs.FlatSteps.{first_slots}
-use Rattle.og_csubset.specs.Tokens.{is_name}
+use Rattle.og_csubset.specs.Tokens.{is_word, is_name}
 use Rattle.og_csubset.specs.Kinds.{is_in, place_in, total}
 use Rattle.og_csubset.specs.Loading.{has_twice, passes}
 use Rattle.og_csubset.specs.Interface as interface
@@ -183,6 +179,14 @@ depth_of_instr instr.Back = 0
 abbrev pub is_shallow : FlatFn → Bool
 is_shallow f = list_all (λ i. nat_le (1 + depth_of_instr i) 256) f.code
 
+-- a function has for each instruction a word, or no bytes
+abbrev pub is_label : List ℕ → Bool
+is_label [] = true
+is_label (byte ∷ bytes) = is_word (byte ∷ bytes)
+
+abbrev pub is_labelled : FlatFn → Bool
+is_labelled f = length f.labels == length f.code && list_all (λ label. is_label label.bytes) f.labels
+
 -- all names
 abbrev pub names_of : Ir → List (List ℕ)
 names_of ir = slot_names ir ++ map (λ e. e.bytes) ir.events ++ flat_function_names ir
@@ -210,17 +214,18 @@ has_values model ir k (event ∷ events) =
     && has_values model ir (k + 1) events
 
 -- Flat code that can be printed.
-pub record Fair (ir : Ir) (model : Model) (regions : List Region) : Type 0 where
+pub record Fair (ir : Ir) (model : Model) : Type 0 where
   -- slots, parts, events, functions and places of jumps are there and are used as what they are, literals lie in 64 bits,
   -- the cases of a table differ, and calls go to earlier functions
   pub right : IsTrue (are_right model.types ir 0 ir.functions)
   pub names : IsTrue (list_all is_name (names_of ir))
   pub differ : IsTrue (not (has_twice (names_of ir)))
+  pub labels : IsTrue (list_all is_labelled ir.functions)
   pub small : total (map count (first_slots model.types ir)) ≤ 16777216
   pub shallow : IsTrue (list_all is_shallow ir.functions)
   -- the first slots are those of the regions, of STOP and of faults
-  pub control : map (λ field. field.name) (interface.control_fields model regions) ≡ take (length (interface.control_fields model regions)) (slot_names ir)
-  pub fields : IsTrue (list_all (has_slot model.types ir) (interface.fields_of model regions))
+  pub control : map (λ field. field.name) (interface.control_fields model) ≡ take (length (interface.control_fields model)) (slot_names ir)
+  pub fields : IsTrue (list_all (has_slot model.types ir) (interface.fields_of model))
   pub events : map (λ e. e.bytes) ir.events ≡ map (interface.event_name model) (interface.events_of model)
   pub values : IsTrue (has_values model ir 0 (interface.events_of model))
   pub functions : IsTrue (list_all (λ name. is_in name (flat_function_names ir)) (interface.functions_of model))

@@ -1,5 +1,5 @@
 -- Flat code over a small model, with what it shows, worked out by hand.
-use Rattle.std.specs.Prelude.{◌≡◌, ℕ, ◌-◌, ◌^◌, ℤ, pos, negsuc, List, [], ◌∷◌, ◌++◌, codes}
+use Rattle.std.specs.Prelude.{◌≡◌, ℕ, ◌-◌, ◌^◌, ℤ, pos, List, [], ◌∷◌, map, codes}
 use Rattle.og_types.specs.declared.Value.TheVariants as value
 use Rattle.og_model.specs.declared.StuckRule.TheVariants as stuck
 use Rattle.og_model.specs.Shown.{Shown, Past, Stuck}
@@ -8,7 +8,7 @@ use Rattle.og_ir.specs.declared.SlotDef.{SlotDef}
 use Rattle.og_ir.specs.declared.SlotSort.TheVariants as slot_sort
 use Rattle.og_ir.specs.declared.FlatFn.{FlatFn}
 use Rattle.og_ir.specs.declared.Instr.{Instr}
-use Rattle.og_ir.specs.declared.Instr.TheVariants.{Set, Copy, Branch, Goto, Table, Call, Emit, Back}
+use Rattle.og_ir.specs.declared.Instr.TheVariants.{Set, Copy, Branch, Table, Call, Emit, Back}
 use Rattle.og_ir.specs.declared.Slot.{Slot}
 use Rattle.og_ir.specs.declared.Step2.TheVariants as step
 use Rattle.og_ir.specs.declared.Flat.{Flat, roll-Flat}
@@ -16,7 +16,7 @@ use Rattle.og_ir.specs.declared.Flat.TheOpen as flat_shape
 use Rattle.og_ir.specs.declared.FlatOp.{FlatOp}
 use Rattle.og_ir.specs.declared.FlatOp.TheVariants as op
 use Rattle.og_ir.specs.declared.FlatRel.TheVariants as rel
-use Rattle.og_csubset.specs.Examples.{word, type, with_variables, one_region, go, shows, at_rest, num}
+use Rattle.og_csubset.specs.Examples.{word, type, with_variables, go, shows, at_rest, num}
 use Rattle.og_csubset.specs.FlatRun.{flat, flat_in_64_bits}
 use Rattle.og_csubset.specs.Fair.{Fair}
 
@@ -65,7 +65,7 @@ abbrev pub item_of_w : Flat → Slot
 item_of_w e = record { base = 9; path = step.Field 1 ∷ step.Index e ∷ [] }
 
 abbrev pub function : List ℕ → List Instr → FlatFn
-function name code = record { name = word name; code = code }
+function name code = record { name = word name; code = code; labels = map (λ i. word []) code }
 
 -- code for the start, and a function after that of go
 abbrev pub code : List Instr → List Instr → Ir
@@ -78,7 +78,7 @@ code start on_go = record {
 }
 
 abbrev pub start_of : List Instr → List Shown
-start_of start = flat (code start []) with_variables one_region [] 20
+start_of start = flat (code start []) with_variables [] 20
 
 abbrev pub greatest : Flat
 greatest = int (2 ^ 63 - 1)
@@ -91,7 +91,7 @@ abbrev pub NumbersAreUnbounded : Type 0
 NumbersAreUnbounded = start_of leaves_64_bits ≡ shows [] (at_rest 1 []) ∷ []
 
 abbrev pub NumbersOf64Bits : Type 0
-NumbersOf64Bits = flat_in_64_bits (code leaves_64_bits []) with_variables one_region [] 20 ≡ shows [] (Stuck stuck.Overflow) ∷ []
+NumbersOf64Bits = flat_in_64_bits (code leaves_64_bits []) with_variables [] 20 ≡ shows [] (Stuck stuck.Overflow) ∷ []
 
 abbrev pub IndexIsOutside : Type 0
 IndexIsOutside = start_of (Set (item_of_w (int 2)) (int 0) ∷ []) ≡ shows [] (Stuck stuck.Index) ∷ []
@@ -113,7 +113,7 @@ CallsTwice = start_of (Call 0 ∷ Call 0 ∷ []) ≡ shows (num 2 ∷ num 2 ∷ 
 
 -- a call is one step; the first event is the third, and the end of the function the fourth
 abbrev pub CutInACall : Type 0
-CutInACall = flat (code (Call 0 ∷ Call 0 ∷ []) []) with_variables one_region [] 4 ≡ shows (num 2 ∷ []) Past ∷ []
+CutInACall = flat (code (Call 0 ∷ Call 0 ∷ []) []) with_variables [] 4 ≡ shows (num 2 ∷ []) Past ∷ []
 
 -- a table over x, whose last place is for all other numbers
 abbrev pub chooses : ℕ → List Instr
@@ -137,9 +137,9 @@ counting =
 
 abbrev pub CountsAndLeavesItsType : Type 0
 CountsAndLeavesItsType =
-    flat counting with_variables one_region (go ∷ go ∷ []) 20
+    flat counting with_variables (go ∷ go ∷ []) 20
     ≡ shows [] (at_rest 3 []) ∷ shows [] (Stuck stuck.Value) ∷ []
 
 -- the code can be printed
 abbrev pub CountingIsFair : Type 0
-CountingIsFair = Fair counting with_variables one_region
+CountingIsFair = Fair counting with_variables

@@ -12,7 +12,8 @@ use Rattle.og_model.specs.declared.Signal.{Signal}
 use Rattle.og_model.specs.declared.Variable.{Variable}
 use Rattle.og_model.specs.declared.EventId.{EventId}
 use Rattle.og_model.specs.declared.EventId.TheVariants as event
-use Rattle.og_model.specs.RegionTypes.{Region}
+use Rattle.og_model.specs.declared.Region.{Region}
+use Rattle.og_model.specs.Regions.{regions}
 
 -- One number, or the cells of a value of a type.
 pub data Shape : Type 0 where
@@ -91,7 +92,7 @@ incoming model = incoming_from 0 model.signals
 abbrev pub functions_of : Model → List (List ℕ)
 functions_of model =
     start_function ∷ (map (signal_function model) (incoming model)
-        ++ map (timer_function model) (numbers_below (length model.timers)))
+    ++ map (timer_function model) (numbers_below (length model.timers)))
 
 -- an output for each signal, then for each timer its setting and its resetting
 abbrev pub events_of : Model → List EventId
@@ -149,12 +150,12 @@ abbrev pub column_name : List ℕ
 column_name = codes "f_column"
 
 -- the regions, then whether it has stopped and where it has failed
-abbrev pub control_fields : Model → List Region → List Field
-control_fields model regions =
-    map (region_field model) regions
+abbrev pub control_fields : Model → List Field
+control_fields model =
+    map (region_field model) (regions model)
     ++ map number_field (stopped_name ∷ kind_name ∷ file_name ∷ line_name ∷ column_name ∷ [])
 
 -- the globals that each program of the model has
-abbrev pub fields_of : Model → List Region → List Field
-fields_of model regions =
-    control_fields model regions ++ variable_fields model ++ timer_fields model ++ flat_map (inputs_of model) (incoming model)
+abbrev pub fields_of : Model → List Field
+fields_of model =
+    control_fields model ++ variable_fields model ++ timer_fields model ++ flat_map (inputs_of model) (incoming model)

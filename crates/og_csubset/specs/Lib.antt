@@ -14,3 +14,7 @@ pub mod Examples
 pub mod FlatExamples
 pub mod Texts
 pub mod Plain
+pub mod Extension
+pub mod Wrong
+pub mod Forms
+pub mod Refusals

@@ -10,7 +10,6 @@ use Rattle.og_types.specs.declared.Sort.TheVariants as sort
 use Rattle.og_types.specs.declared.TypeId.{TypeId}
 use Rattle.og_model.specs.declared.Model.{Model}
 use Rattle.og_model.specs.declared.EventId.{EventId}
-use Rattle.og_model.specs.RegionTypes.{Region}
 use Rattle.og_csubset.specs.declared.CProgram.{CProgram}
 use Rattle.og_csubset.specs.declared.CStruct.{CStruct}
 use Rattle.og_csubset.specs.declared.CMember.{CMember}
@@ -18,7 +17,7 @@ use Rattle.og_csubset.specs.declared.CType.{CType}
 use Rattle.og_csubset.specs.declared.CType.TheVariants.{Int64, Struct}
 use Rattle.og_csubset.specs.declared.CFunction.{CFunction}
 use Rattle.og_csubset.specs.declared.CStmt.{CStmt}
-use Rattle.og_csubset.specs.declared.CStmt.TheVariants.{Assign, IfGoto, Goto, Label, Switch, Call, Return}
+use Rattle.og_csubset.specs.declared.CStmt.TheVariants.{Assign, IfGoto, Goto, Label, Switch, Call}
 use Rattle.og_csubset.specs.declared.CCase.{CCase}
 use Rattle.og_csubset.specs.declared.CPlace.{CPlace}
 use Rattle.og_csubset.specs.declared.CStep.{CStep}
@@ -89,7 +88,7 @@ kind_after is_number structs kind (At e ∷ steps) =
 abbrev pub type_by : (CExpr → Bool) → CProgram → CPlace → Option CType
 type_by is_number program place =
     global_kind program place.name.bytes >>= λ kind.
-        kind_after is_number program.structs kind place.path >>= type_of_one
+    kind_after is_number program.structs kind place.path >>= type_of_one
 
 -- the expression is a number, where these parts are
 abbrev pub number_by : (CExpr → Bool) → CProgram → CExpr-F CExpr CStep CPlace CTest → Bool
@@ -264,22 +263,22 @@ has_event program model event =
     if is_in (interface.event_name model event) (event_names program)
     then list_all (has_field program model) (interface.event_globals model event)
     else is_free program (interface.event_name model event)
-        && list_all (λ field. is_free program field.name || has_field program model field) (interface.event_globals model event)
+    && list_all (λ field. is_free program field.name || has_field program model field) (interface.event_globals model event)
 
-abbrev pub breaks_K9 : CProgram → Model → List Region → Bool
-breaks_K9 program model regions =
+abbrev pub breaks_K9 : CProgram → Model → Bool
+breaks_K9 program model =
     not (list_all (λ name. is_in name (function_names program)) (interface.functions_of model)
-        && list_all (has_field program model) (interface.fields_of model regions)
-        && list_all (has_event program model) (interface.events_of model)
-        && list_all (λ name. is_in name (map (interface.event_name model) (interface.events_of model))) (event_names program))
+    && list_all (has_field program model) (interface.fields_of model)
+    && list_all (has_event program model) (interface.events_of model)
+    && list_all (λ name. is_in name (map (interface.event_name model) (interface.events_of model))) (event_names program))
 
 -- the first rule that is broken
 abbrev pub first_broken : List (Bool × LoadRule) → Option LoadRule
 first_broken [] = None
 first_broken (test ∷ tests) = if test.0 then Some test.1 else first_broken tests
 
-unfoldable pub first_load_rule : CProgram → Model → List Region → Option LoadRule
-first_load_rule program model regions =
+unfoldable pub first_load_rule : CProgram → Model → Option LoadRule
+first_load_rule program model =
     first_broken
     ((breaks_K3 program, rule.K3)
     ∷ (breaks_K4 program, rule.K4)
@@ -287,9 +286,9 @@ first_load_rule program model regions =
     ∷ (breaks_K6 program, rule.K6)
     ∷ (breaks_K7 program, rule.K7)
     ∷ (breaks_K8 program, rule.K8)
-    ∷ (breaks_K9 program model regions, rule.K9)
+    ∷ (breaks_K9 program model, rule.K9)
     ∷ [])
 
 -- the program breaks none of the rules
-abbrev pub Loads : CProgram → Model → List Region → Type 0
-Loads program model regions = first_load_rule program model regions ≡ None
+abbrev pub Loads : CProgram → Model → Type 0
+Loads program model = first_load_rule program model ≡ None

@@ -1,11 +1,10 @@
 -- What the globals of the interface say: the values of an event's parameters, how a run has ended, and where the inputs of a
 -- stimulus go. The globals go by their names, whether they are those of a program of the C subset or the slots of flat
 -- code. Where a global that is looked at holds no value of its type or range, nothing can be read.
-use Rattle.std.specs.Prelude.{ℕ, zero, suc, ◌^◌, ℤ, pos, negsuc, List, [], ◌∷◌, ◌++◌, Bool, if◌then◌else◌, nat_lt, Option, Some, None, map, slice_get, unwrap_or}
+use Rattle.std.specs.Prelude.{ℕ, zero, suc, ◌^◌, ℤ, pos, negsuc, List, [], ◌∷◌, ◌++◌, Bool, if◌then◌else◌, nat_lt, Option, Some, None, slice_get, unwrap_or}
 use Rattle.std.specs.Str.{bytes_eq}
 use Rattle.og_base.specs.declared.Place.{Place}
 use Rattle.og_names.specs.declared.NameId.{NameId}
-use Rattle.og_types.specs.declared.TypeId.{TypeId}
 use Rattle.og_types.specs.declared.Value.{Value}
 use Rattle.og_types.specs.declared.Value.TheVariants.{Int}
 use Rattle.og_model.specs.declared.Model.{Model}
@@ -14,7 +13,9 @@ use Rattle.og_model.specs.declared.EventId.TheVariants as event
 use Rattle.og_model.specs.declared.FaultKind.{FaultKind}
 use Rattle.og_model.specs.declared.FaultKind.TheVariants as fault
 use Rattle.og_model.specs.declared.StuckRule.TheVariants as stuck
-use Rattle.og_model.specs.RegionTypes.{Region, Leaf}
+use Rattle.og_model.specs.declared.Leaf.{Leaf}
+use Rattle.og_model.specs.declared.Region.{Region}
+use Rattle.og_model.specs.Regions.{regions}
 use Rattle.og_model.specs.Shown.{Event, Output, Set, Reset, End, Rest, Fault, Stopped, Stuck}
 use Rattle.og_ir.specs.Cells.{◌>>=◌, Cells, Cell, number_in, global, change_global}
 use Rattle.og_ir.specs.Reading.{only_if, below, truth_in, value_in, cells_of}
@@ -100,10 +101,10 @@ active_path region (pos n) = slice_get region.leaves n >>= λ leaf. Some (path_o
 -- the paths of the active basic states, in the order of the regions
 abbrev pub paths_in : Model → Globals → List Region → Option (List (List NameId))
 paths_in model globals [] = Some []
-paths_in model globals (region ∷ regions) = do
+paths_in model globals (region ∷ more) = do
   z ← number_named globals ((interface.region_field model region).name)
   here ← active_path region z
-  others ← paths_in model globals regions
+  others ← paths_in model globals more
   Some (here ++ others)
 
 -- the kinds of faults, numbered from 1
@@ -141,31 +142,31 @@ fault_end model globals number = do
 abbrev pub stopped_end : Model → Globals → Option End
 stopped_end model globals = variables_in model globals >>= λ variables. Some (Stopped variables)
 
-abbrev pub rest_end : Model → List Region → Globals → Option End
-rest_end model regions globals = do
-  paths ← paths_in model globals regions
+abbrev pub rest_end : Model → Globals → Option End
+rest_end model globals = do
+  paths ← paths_in model globals (regions model)
   variables ← variables_in model globals
   timers ← timers_in model globals
   Some (Rest paths variables timers)
 
 -- STOP, if its number is not 0, and rest otherwise
-abbrev pub end_without_fault : Model → List Region → Globals → ℤ → Option End
-end_without_fault model regions globals (pos zero) = rest_end model regions globals
-end_without_fault model regions globals (pos (suc n)) = stopped_end model globals
-end_without_fault model regions globals (negsuc n) = stopped_end model globals
+abbrev pub end_without_fault : Model → Globals → ℤ → Option End
+end_without_fault model globals (pos zero) = rest_end model globals
+end_without_fault model globals (pos (suc n)) = stopped_end model globals
+end_without_fault model globals (negsuc n) = stopped_end model globals
 
 -- a fault, if its kind is not 0
-abbrev pub end_by_kind : Model → List Region → Globals → ℤ → Option End
-end_by_kind model regions globals (pos zero) =
-    number_named globals interface.stopped_name >>= end_without_fault model regions globals
-end_by_kind model regions globals (pos (suc n)) = fault_end model globals (pos (suc n))
-end_by_kind model regions globals (negsuc n) = fault_end model globals (negsuc n)
+abbrev pub end_by_kind : Model → Globals → ℤ → Option End
+end_by_kind model globals (pos zero) =
+    number_named globals interface.stopped_name >>= end_without_fault model globals
+end_by_kind model globals (pos (suc n)) = fault_end model globals (pos (suc n))
+end_by_kind model globals (negsuc n) = fault_end model globals (negsuc n)
 
 -- how a run has ended whose last function has returned
-unfoldable pub end_of : Model → List Region → List (List ℕ) → List Cells → End
-end_of model regions names cells =
+unfoldable pub end_of : Model → List (List ℕ) → List Cells → End
+end_of model names cells =
     let globals : Globals = record { names = names; cells = cells } in
-    unwrap_or (number_named globals interface.kind_name >>= end_by_kind model regions globals) (Stuck stuck.Value)
+    unwrap_or (number_named globals interface.kind_name >>= end_by_kind model globals) (Stuck stuck.Value)
 
 -- puts cells into a global, where it is there
 abbrev pub put_numbered : Option ℕ → Cells → List Cells → List Cells

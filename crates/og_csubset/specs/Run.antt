@@ -5,11 +5,9 @@
 -- statement would do. Nothing follows a fault, Past or a program that is stuck. After STOP a stimulus calls its function as
 -- before.
 use Rattle.std.specs.Prelude.{ℕ, List, [], ◌∷◌, Option, Some, None, map}
-use Rattle.og_types.specs.declared.Value.{Value}
 use Rattle.og_model.specs.declared.Model.{Model}
 use Rattle.og_model.specs.declared.StuckRule.{StuckRule}
 use Rattle.og_model.specs.declared.StuckRule.TheVariants as stuck
-use Rattle.og_model.specs.RegionTypes.{Region}
 use Rattle.og_model.specs.Shown.{Event, End, Rest, Fault, Stopped, Past, Stuck, Shown, Stimulus, Signal, Expiry}
 use Rattle.og_ir.specs.Cells.{Cells}
 use Rattle.og_ir.specs.Arithmetic.{Trouble, Overflow, Index, Divide, Value as Unread}
@@ -75,14 +73,14 @@ begun model functions names (Some (Signal k values)) globals =
 begun model functions names (Some (Expiry k)) globals = entered (place_in (timer_function model k) functions) globals
 
 -- a program over a model
-abbrev pub c_machine : CProgram → Model → List Region → Machine
-c_machine program model regions = record {
+abbrev pub c_machine : CProgram → Model → Machine
+c_machine program model = record {
   begin = begun model (function_names program) (global_names program);
   step = cstep (event_of model (global_names program)) program;
-  ending = end_of model regions (global_names program);
+  ending = end_of model (global_names program);
 }
 
 -- what the program shows with at most so many statements for each stimulus
-unfoldable pub c : CProgram → Model → List Region → List Stimulus → ℕ → List Shown
-c program model regions stimuli steps =
-    runs (c_machine program model regions) steps (all_stimuli stimuli) (first_globals program)
+unfoldable pub c : CProgram → Model → List Stimulus → ℕ → List Shown
+c program model stimuli steps =
+    runs (c_machine program model) steps (all_stimuli stimuli) (first_globals program)

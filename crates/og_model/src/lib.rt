@@ -12,6 +12,9 @@ pub use numbers::{
     scopes_have_what_their_states_have, signals_are_handled_once, states_are_there,
     two_states_are_well_formed,
 };
+
+mod copy;
+
 use og_base::Place;
 use og_names::{NameId, Names};
 use og_types::{TypeId, TypeTable, Value};

@@ -9,6 +9,8 @@ mod rules;
 mod run;
 mod status;
 mod syntax;
+#[cfg(test)]
+mod tests;
 mod words;
 
 pub use run::run_tool;

@@ -1,0 +1,138 @@
+use crate::{Status, run_tool};
+use og_base::{MemFile, MemSink, MemStore};
+use std::alloc::{AllocError, Global};
+use std::test::Fail;
+
+/// What a call of `cc m.pr` answers and writes, over a file of these bytes, with a store and a sink that fail at these calls.
+fn compiled(
+    alloc: Global,
+    bytes: &[u8],
+    bad_reads: &[u64],
+    bad_writes: &[u64],
+) -> Result<(Status, Vec<u8>), AllocError> {
+    let mut files = Vec::new(alloc);
+    files.push(MemFile {
+        name: Vec::from_slice(alloc, b"m.pr")?,
+        bytes: Vec::from_slice(alloc, bytes)?,
+    })?;
+    let mut store = MemStore::new(files, Vec::from_slice(alloc, bad_reads)?);
+    let mut sink = MemSink::new(alloc, Vec::from_slice(alloc, bad_writes)?);
+    let mut words = Vec::new(alloc);
+    words.push(String::from_str(alloc, "cc")?)?;
+    words.push(String::from_str(alloc, "m.pr")?)?;
+    let status = run_tool(alloc, &words, &mut store, &mut sink);
+    Ok((status, sink.bytes))
+}
+
+const TWO_STATES: &[u8] = b"SYSTEM s; SIGNAL go, done; BLOCK b; PROCESS p;
+START; NEXTSTATE idle;
+STATE idle; INPUT go; OUTPUT done; NEXTSTATE busy; ENDSTATE;
+STATE busy; ENDSTATE;
+ENDPROCESS; ENDBLOCK; ENDSYSTEM;
+";
+
+#[test]
+fn an_accepted_model_gives_c_that_begins_with_the_include_line(rt: HostRuntime) -> Result<(), Fail> {
+    let (status, text) = compiled(rt.alloc(), TWO_STATES, &[], &[])?;
+    assert_eq!(rt; status, Status::Done);
+    assert!(rt; text.as_slice().starts_with(b"#include <stdint.h>\n".as_slice()));
+    Ok(())
+}
+
+#[test]
+fn a_failed_read_or_write_leaves_nothing_written(rt: HostRuntime) -> Result<(), Fail> {
+    let (status, text) = compiled(rt.alloc(), TWO_STATES, &[0], &[])?;
+    assert_eq!(rt; status, Status::ReadFault);
+    assert!(rt; text.is_empty());
+    let (status, text) = compiled(rt.alloc(), TWO_STATES, &[], &[0])?;
+    assert_eq!(rt; status, Status::WriteFault);
+    assert!(rt; text.is_empty());
+    Ok(())
+}
+
+/// Files that violate a rule, and what is written of each.
+const REFUSED: [(&[u8], &[u8]); 43] = [
+    (b"@", b"refused L1 m.pr:1:1\n"),
+    (b"SYSTEM s;\n  # x", b"refused L1 m.pr:2:3\n"),
+    (b"SYSTEM \xc3\xa9", b"refused L1 m.pr:1:8\n"),
+    (b"_a", b"refused L1 m.pr:1:1\n"),
+    (b"SYSTEM s; /* no end", b"refused L2 m.pr:1:11\n"),
+    (b"SYSTEM s;\nSIGNAL 'no end", b"refused L2 m.pr:2:8\n"),
+    (b"SYSTEM 'a''b", b"refused L2 m.pr:1:8\n"),
+    (b"SYSTEM aaaaaaaaaaaaaaaaaaaaaaaaaaaaaaaaaaaaaaaaaaaaaaaaaaaaaaaaaaaaaaaaa", b"refused L3 m.pr:1:8\n"),
+    (b"SYSTEM aaaaaaaaaaaaaaaaaaaaaaaaaaaaaaaaaaaaaaaaaaaaaaaaaaaaaaaaaaaaaaaa", b"refused F1 m.pr:1:1\n"),
+    (b"9223372036854775809", b"refused L4 m.pr:1:1\n"),
+    (b"9223372036854775808", b"refused F1 m.pr:1:1\n"),
+    (b"00000000000000000000009", b"refused F1 m.pr:1:1\n"),
+    (b"", b"refused F1 m.pr:1:1\n"),
+    (b"  \n -- nothing", b"refused F1 m.pr:2:12\n"),
+    (b"x @", b"refused L1 m.pr:1:3\n"),
+    (b"@ 9223372036854775809", b"refused L1 m.pr:1:1\n"),
+    (b"SYSTEM s; SIGNAL go, done; BLOCK b; PROCESS p;\nSTART; STOP;\nENDPROCESS; ENDBLOCK; ENDSYSTEM;\n", b"refused F1 m.pr:1:1\n"),
+    (b"SYSTEM s; SIGNAL go, done; BLOCK b; PROCESS p;\nSTART; NEXTSTATE idle\nENDPROCESS; ENDBLOCK; ENDSYSTEM;\n", b"refused F1 m.pr:1:1\n"),
+    (b"SYSTEM s; SIGNAL go, done; BLOCK b; PROCESS p;\nSTART; NEXTSTATE a; STATE a; ENDSTATE;\nENDPROCESS; ENDBLOCK;\n", b"refused F1 m.pr:1:1\n"),
+    (b"\r\nSYSTEM s; SIGNAL go, done; BLOCK b; PROCESS p;\nSTART; NEXTSTATE a STATE a; ENDSTATE;\nENDPROCESS; ENDBLOCK; ENDSYSTEM;\n", b"refused F1 m.pr:2:1\n"),
+    (b"SYSTEM s; SIGNAL go, done; BLOCK b; PROCESS p;\nSTART; NEXTSTATE gone;\nENDPROCESS; ENDBLOCK; ENDSYSTEM;\n", b"refused N1 m.pr:2:18\n"),
+    (b"SYSTEM s; SIGNAL go, done; BLOCK b; PROCESS p;\nSTART; NEXTSTATE go;\nENDPROCESS; ENDBLOCK; ENDSYSTEM;\n", b"refused N3 m.pr:2:18\n"),
+    (b"SYSTEM s; SIGNAL go, done; BLOCK b; PROCESS p;\nSTART; NEXTSTATE p;\nENDPROCESS; ENDBLOCK; ENDSYSTEM;\n", b"refused N3 m.pr:2:18\n"),
+    (b"SYSTEM s; SIGNAL go, done; BLOCK b; PROCESS p;\nSTART; NEXTSTATE b;\nENDPROCESS; ENDBLOCK; ENDSYSTEM;\n", b"refused N3 m.pr:2:18\n"),
+    (b"SYSTEM s; SIGNAL go, done; BLOCK b; PROCESS p;\nSTART; NEXTSTATE s;\nENDPROCESS; ENDBLOCK; ENDSYSTEM;\n", b"refused N1 m.pr:2:18\n"),
+    (b"SYSTEM s; SIGNAL go, done; BLOCK b; PROCESS p;\nSTART; NEXTSTATE LENGTH;\nENDPROCESS; ENDBLOCK; ENDSYSTEM;\n", b"refused N3 m.pr:2:18\n"),
+    (b"SYSTEM s; SIGNAL go, done; BLOCK b; PROCESS p;\nSTART; NEXTSTATE boolean;\nENDPROCESS; ENDBLOCK; ENDSYSTEM;\n", b"refused N3 m.pr:2:18\n"),
+    (b"SYSTEM s; SIGNAL go, done; BLOCK b; PROCESS p;\nSTART; NEXTSTATE a;\nSTATE a; INPUT a; NEXTSTATE a; ENDSTATE;\nENDPROCESS; ENDBLOCK; ENDSYSTEM;\n", b"refused N3 m.pr:3:16\n"),
+    (b"SYSTEM s; SIGNAL go, done; BLOCK b; PROCESS p;\nSTART; NEXTSTATE a;\nSTATE a; INPUT gone; OUTPUT other; NEXTSTATE third; ENDSTATE;\nENDPROCESS; ENDBLOCK; ENDSYSTEM;\n", b"refused N1 m.pr:3:16\n"),
+    (b"SYSTEM s; SIGNAL go, done; BLOCK b; PROCESS p;\nSTART; NEXTSTATE a;\nSTATE a; INPUT go; OUTPUT other; NEXTSTATE third; ENDSTATE;\nENDPROCESS; ENDBLOCK; ENDSYSTEM;\n", b"refused N1 m.pr:3:27\n"),
+    (b"SYSTEM s; SIGNAL go, done; BLOCK b; PROCESS p;\nSTART; NEXTSTATE a;\nSTATE a; INPUT go; OUTPUT done; NEXTSTATE third; ENDSTATE;\nENDPROCESS; ENDBLOCK; ENDSYSTEM;\n", b"refused N1 m.pr:3:43\n"),
+    (b"SYSTEM s; SIGNAL go, Go; BLOCK b; PROCESS p;\nSTART; NEXTSTATE a; STATE a; ENDSTATE;\nENDPROCESS; ENDBLOCK; ENDSYSTEM;\n", b"refused N2 m.pr:1:22\n"),
+    (b"SYSTEM s; SIGNAL go;\nSIGNAL done, GO, gO; BLOCK b; PROCESS p;\nSTART; NEXTSTATE a; STATE a; ENDSTATE;\nENDPROCESS; ENDBLOCK; ENDSYSTEM;\n", b"refused N2 m.pr:2:14\n"),
+    (b"SYSTEM s; SIGNAL g__o; BLOCK b; PROCESS p;\nSTART; NEXTSTATE a; STATE a; ENDSTATE;\nENDPROCESS; ENDBLOCK; ENDSYSTEM;\n", b"refused N4 m.pr:1:18\n"),
+    (b"SYSTEM s; SIGNAL g__o, g__o; BLOCK b; PROCESS p;\nSTART; NEXTSTATE a; STATE a; ENDSTATE;\nENDPROCESS; ENDBLOCK; ENDSYSTEM;\n", b"refused N4 m.pr:1:18\n"),
+    (b"SYSTEM s; SIGNAL go, g__o, G__o; BLOCK b__; PROCESS p__;\nSTART; NEXTSTATE gone;\nENDPROCESS; ENDBLOCK; ENDSYSTEM;\n", b"refused N4 m.pr:1:22\n"),
+    (b"SYSTEM s__s; BLOCK b; PROCESS p;\nSTART; NEXTSTATE a__b; STATE a; ENDSTATE;\nENDPROCESS; ENDBLOCK; ENDSYSTEM;\n", b"refused N1 m.pr:2:18\n"),
+    (b"SYSTEM s; BLOCK b; PROCESS p;\nSTART; NEXTSTATE a__b; STATE a__b; ENDSTATE;\nENDPROCESS; ENDBLOCK; ENDSYSTEM;\n", b"refused N4 m.pr:2:30\n"),
+    (b"SYSTEM s; BLOCK b__c; PROCESS p;\nSTART; NEXTSTATE a; STATE a; ENDSTATE;\nENDPROCESS; ENDBLOCK; ENDSYSTEM;\n", b"refused N4 m.pr:1:17\n"),
+    (b"SYSTEM s; SIGNAL go, done; BLOCK b; PROCESS p;\nSTART; NEXTSTATE a;\nSTATE a; INPUT go; NEXTSTATE a; INPUT go; NEXTSTATE a; ENDSTATE;\nENDPROCESS; ENDBLOCK; ENDSYSTEM;\n", b"refused A2 m.pr:3:39\n"),
+    (b"SYSTEM s; SIGNAL go, done; BLOCK b; PROCESS p;\nSTART; NEXTSTATE a;\nSTATE a; INPUT go; NEXTSTATE a; INPUT done; NEXTSTATE a; INPUT GO; NEXTSTATE a; INPUT go; NEXTSTATE a; ENDSTATE;\nENDPROCESS; ENDBLOCK; ENDSYSTEM;\n", b"refused A2 m.pr:3:64\n"),
+    (b"SYSTEM s; SIGNAL go, done; BLOCK b; PROCESS p;\nSTART; NEXTSTATE a;\nSTATE a; INPUT go; NEXTSTATE a; ENDSTATE;\nSTATE c; ENDSTATE;\nSTATE A; INPUT done; NEXTSTATE a; INPUT Go; NEXTSTATE a; ENDSTATE;\nENDPROCESS; ENDBLOCK; ENDSYSTEM;\n", b"refused A2 m.pr:5:41\n"),
+    (b"SYSTEM s; SIGNAL go, done; BLOCK b; PROCESS p;\nSTART; NEXTSTATE a;\nSTATE a; INPUT go; NEXTSTATE a; INPUT go; NEXTSTATE gone; ENDSTATE;\nENDPROCESS; ENDBLOCK; ENDSYSTEM;\n", b"refused N1 m.pr:3:53\n"),
+];
+
+#[test]
+fn the_first_violated_rule_is_named_with_its_place(rt: HostRuntime) -> Result<(), Fail> {
+    for (file, line) in REFUSED {
+        let (status, text) = compiled(rt.alloc(), file, &[], &[])?;
+        assert_eq!(rt; status, Status::Refused);
+        assert!(rt; text.as_slice() == line, "another line is written");
+    }
+    Ok(())
+}
+
+/// A process of this many states, and as many signals.
+fn wide(alloc: Global, states: u32, signals: u32) -> Result<Vec<u8>, AllocError> {
+    let mut text = String::from_str(alloc, "SYSTEM s; SIGNAL g0")?;
+    for i in 1..signals {
+        text.push_str(format!(in alloc; ", g{i}")?.as_str())?;
+    }
+    text.push_str("; BLOCK b;\nPROCESS p; START; NEXTSTATE s0;\n")?;
+    for i in 0..states {
+        text.push_str(format!(in alloc; "STATE s{i}; ENDSTATE;\n")?.as_str())?;
+    }
+    text.push_str("ENDPROCESS; ENDBLOCK; ENDSYSTEM;\n")?;
+    Vec::from_slice(alloc, text.as_bytes())
+}
+
+#[test]
+fn limits_are_kept_at_their_edges(rt: HostRuntime) -> Result<(), Fail> {
+    for (states, signals, status, line) in [
+        (1000, 200, Status::Done, ""),
+        (1001, 200, Status::Refused, "refused M1 m.pr:2:9\n"),
+        (1000, 201, Status::Refused, "refused M2 m.pr:2:9\n"),
+        (1001, 201, Status::Refused, "refused M1 m.pr:2:9\n"),
+    ] {
+        let file = wide(rt.alloc(), states, signals)?;
+        let (answer, text) = compiled(rt.alloc(), &file, &[], &[])?;
+        assert_eq!(rt; answer, status);
+        assert!(rt; answer == Status::Done || text.as_slice() == line.as_bytes(), "another line is written");
+    }
+    Ok(())
+}
