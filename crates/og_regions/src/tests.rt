@@ -113,20 +113,12 @@ fn nested(alloc: Global) -> Result<Model, NoMemory> {
     })
 }
 
-fn is_path(path: &[NameId], names: &[u32]) -> bool {
-    path.len() == names.len()
-        && path
-            .iter()
-            .zip(names.iter())
-            .all(|(name, wanted)| name.0 == *wanted)
-}
-
-fn is_region(region: &Region, path: &[u32], leaves: &[(&[u32], bool)]) -> bool {
-    is_path(region.path.as_slice(), path)
-        && region.leaves.len() == leaves.len()
-        && region.leaves.as_slice().iter().zip(leaves.iter()).all(|(leaf, wanted)| {
-            is_path(leaf.path.as_slice(), wanted.0) && leaf.basic == wanted.1
-        })
+/// The leaf of this number has this path.
+fn is_leaf(region: &Region, at: usize, path: &[NameId], basic: bool) -> bool {
+    match region.leaves.get(at) {
+        Some(leaf) => leaf.path.as_slice() == path && leaf.basic == basic,
+        None => false,
+    }
 }
 
 #[test]
@@ -136,14 +128,14 @@ fn partitions_are_regions_and_states_are_leaves(rt: HostRuntime) -> Result<(), N
     let regions = number(alloc, &model)?;
     let regions = regions.list.as_slice();
     assert_eq!(rt; regions.len(), 3);
-    assert!(rt;
-        is_region(
-            &regions[0],
-            &[],
-            &[(&[6], true), (&[1, 2], true), (&[1, 3], false)]
-        )
-    );
-    assert!(rt; is_region(&regions[1], &[1, 3, 4], &[(&[7], true)]));
-    assert!(rt; is_region(&regions[2], &[1, 3, 5], &[(&[8], true), (&[9], true)]));
+    assert!(rt; regions[0].path.is_empty() && regions[0].leaves.len() == 3);
+    assert!(rt; is_leaf(&regions[0], 0, &[NameId(6)], true));
+    assert!(rt; is_leaf(&regions[0], 1, &[NameId(1), NameId(2)], true));
+    assert!(rt; is_leaf(&regions[0], 2, &[NameId(1), NameId(3)], false));
+    assert!(rt; regions[1].path.as_slice() == [NameId(1), NameId(3), NameId(4)].as_slice());
+    assert!(rt; is_leaf(&regions[1], 0, &[NameId(7)], true) && regions[1].leaves.len() == 1);
+    assert!(rt; regions[2].path.as_slice() == [NameId(1), NameId(3), NameId(5)].as_slice());
+    assert!(rt; is_leaf(&regions[2], 0, &[NameId(8)], true));
+    assert!(rt; is_leaf(&regions[2], 1, &[NameId(9)], true) && regions[2].leaves.len() == 2);
     Ok(())
 }
