@@ -19,3 +19,5 @@ pub mod Extension
 pub mod ExtensionRuns
 pub mod Forms
 pub mod Steady
+pub mod Layouts
+pub mod Beginnings

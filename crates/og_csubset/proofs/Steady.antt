@@ -1,5 +1,5 @@
 -- A program that loads keeps to cells, functions and labels that are there.
-use Rattle.std.proofs.Common.{◌≡◌, ℕ, zero, suc, ◌+◌, ◌<◌, ◌≤◌, ℤ, pos, List, [], ◌∷◌, ◌++◌, Bool, true, false, cond, not, ◌&&◌, ◌||◌, ◌⊎◌, inl, inr, Option, Some, None, Result, Ok, Err, map, length, replicate, slice_get, refl, sym, ap, subst, ◌∙◌, arith}
+use Rattle.std.proofs.Common.{◌≡◌, ℕ, zero, suc, ◌+◌, ◌<◌, ℤ, List, [], ◌∷◌, ◌++◌, Bool, true, false, cond, not, ◌&&◌, ◌||◌, ◌⊎◌, inl, inr, Option, Some, None, Result, Ok, Err, map, length, replicate, slice_get, refl, sym, ap, subst, ◌∙◌, arith}
 use Rattle.std.specs.Prelude.{find, flat_map, is_some, option_map}
 use Rattle.std.specs.List.{list_all, list_any, AllByRecursion}
 use Rattle.std.specs.Str.{bytes_eq}
@@ -26,29 +26,28 @@ use Rattle.og_csubset.specs.declared.CTest.{CTest}
 use Rattle.og_ir.specs.Cells as cells
 use Rattle.og_ir.specs.Cells.{Cells, Cell, Empty, Both, row, equal_parts, cells_by}
 use Rattle.og_ir.specs.Arithmetic.{Trouble, Overflow, Index, Divide, Value, ◌>>=◌, or_else, is_same}
-use Rattle.og_ir.specs.Steps.{Frame, Config, Running, Over, Broken, Ran, quiet, and_then, exec, with_value, onward, jumped, returned, called, showing}
-use Rattle.og_ir.specs.FlatSteps.{Spot, cells_at, put}
+use Rattle.og_ir.specs.Steps.{Frame, Config, Running, Over, Broken, Ran, quiet, exec, with_value, onward, jumped, returned, called, showing}
 use Rattle.og_ir.proofs.ValueCells.{left_of, right_of}
-use Rattle.og_ir.proofs.ValueRead.{Bound, bound, same_value}
-use Rattle.og_csubset.specs.Kinds.{Kind, place_in, is_in, struct_names, global_names, event_names, function_names, same_type, members_of, sized, blank_within, blank_type, first_globals}
+use Rattle.og_ir.proofs.ValueRead.{same_value}
+use Rattle.og_csubset.specs.Kinds.{place_in, is_in, struct_names, global_names, event_names, function_names, same_type, members_of, sized, blank_within, blank_type, first_globals}
 use Rattle.og_csubset.specs.Loading.{has_twice, all_names, is_known, structs_known, is_number, type_of_place, type_of_shape, type_of, agree, is_typed, repeats_case, labels_of, targets_of, has_labels, calls_known, functions_known, breaks_K3, breaks_K4, breaks_K5, breaks_K6, breaks_K7, first_load_rule, Loads}
-use Rattle.og_csubset.specs.Step.{value_of, holds, spot_of, assigned, is_label, label_in, gone, case_of, call, act, fetched, cstep}
-use Rattle.og_csubset.specs.Forms.{Form, One, Row, Unknown, kind_of_member, one_of, row_of, form_of_type, form_of_sized, form_of, HasForm, HaveForms, IsOfNumbers, IsCall, IsSteady}
+use Rattle.og_csubset.specs.Step.{value_of, holds, spot_of, assigned, is_label, label_in, gone, case_of, act, fetched, cstep}
+use Rattle.og_csubset.specs.Forms.{Row, kind_of_member, one_of, row_of, form_of_type, form_of_sized, HasForm, HaveForms, IsCall, IsSteady}
 use Rattle.og_model.specs.declared.Model.{Model}
 use Rattle.og_csubset.proofs.Extension.{not_false}
 use Rattle.og_csubset.proofs.ExtensionRuns.{or_left, or_right}
-use Rattle.og_csubset.proofs.Forms.{Good, good_bind, FoundSpot, value_good, place_good, chosen}
+use Rattle.og_csubset.proofs.Forms.{Good, good_bind, FoundSpot, value_good, place_good}
 
 -- ---- lists and names
 
 -- what holds of each element holds of the one at a place
-all_at : {A : Type 0} (p : A → Bool) (xs : List A) (k : ℕ) (x : A) → list_all p xs ≡ true → slice_get xs k ≡ Some x → p x ≡ true
+pub all_at : {A : Type 0} (p : A → Bool) (xs : List A) (k : ℕ) (x : A) → list_all p xs ≡ true → slice_get xs k ≡ Some x → p x ≡ true
 all_at p [] k x h e = absurd (none-some x e)
 all_at p (y ∷ xs) zero x h e = subst (λ z. p z ≡ true) (same_value y x e) (left_of (p y) (list_all p xs) h)
 all_at p (y ∷ xs) (suc k) x h e = all_at p xs k x (right_of (p y) (list_all p xs) h) e
 
 -- the same of what the elements are mapped to
-all_of_each : {A B : Type 0} (q : B → Bool) (f : A → List B) (xs : List A) (k : ℕ) (x : A) → list_all q (flat_map f xs) ≡ true → slice_get xs k ≡ Some x → list_all q (f x) ≡ true
+pub all_of_each : {A B : Type 0} (q : B → Bool) (f : A → List B) (xs : List A) (k : ℕ) (x : A) → list_all q (flat_map f xs) ≡ true → slice_get xs k ≡ Some x → list_all q (f x) ≡ true
 all_of_each q f [] k x h e = absurd (none-some x e)
 all_of_each q f (y ∷ xs) zero x h e =
     subst (λ z. list_all q (f z) ≡ true) (same_value y x e) (left_of (list_all q (f y)) (list_all q (flat_map f xs)) (sym (list_all-append q (f y) (flat_map f xs)) ∙ h))
@@ -68,11 +67,11 @@ or_second true b h = refl
 or_second false b h = h
 
 -- A name's place, with what stands there.
-record Named {A : Type 0} (text : A → List ℕ) (xs : List A) (name : List ℕ) : Type 0 where
-  place : ℕ
-  found : A
-  is : place_in name (map text xs) ≡ Some place
-  stands : slice_get xs place ≡ Some found
+pub record Named {A : Type 0} (text : A → List ℕ) (xs : List A) (name : List ℕ) : Type 0 where
+  pub place : ℕ
+  pub found : A
+  pub is : place_in name (map text xs) ≡ Some place
+  pub stands : slice_get xs place ≡ Some found
 
 named_by : {A : Type 0} (b : Bool) (text : A → List ℕ) (x : A) (xs : List A) (name : List ℕ) → bytes_eq name (text x) ≡ b → (b || is_in name (map text xs)) ≡ true → (is_in name (map text xs) ≡ true → Named text xs name) → Named text (x ∷ xs) name
 named_by true text x xs name e h more = record {
@@ -94,7 +93,7 @@ named_by false text x xs name e h more =
     }
 
 -- a name that is in has a place
-named_place : {A : Type 0} (text : A → List ℕ) (xs : List A) (name : List ℕ) → is_in name (map text xs) ≡ true → Named text xs name
+pub named_place : {A : Type 0} (text : A → List ℕ) (xs : List A) (name : List ℕ) → is_in name (map text xs) ≡ true → Named text xs name
 named_place text [] name h = absurd (false≢true h)
 named_place text (x ∷ xs) name h = named_by (bytes_eq name (text x)) text x xs name refl h (named_place text xs name)
 
@@ -144,6 +143,7 @@ call_known names (g ∷ functions) (suc k) f h e p name c =
     own : (bytes_eq name.bytes g.name.bytes ≡ true) ⊎ (is_in name.bytes names ≡ true) → (is_in name.bytes names ≡ true) ⊎ (is_in name.bytes (map (λ (i : CFunction). i.name.bytes) (g ∷ functions)) ≡ true)
     own (inl same) = inr (or_first (bytes_eq name.bytes g.name.bytes) (is_in name.bytes (map (λ (i : CFunction). i.name.bytes) functions)) same)
     own (inr there) = inl there
+
     shifted : (is_in name.bytes (g.name.bytes ∷ names) ≡ true) ⊎ (is_in name.bytes (map (λ (i : CFunction). i.name.bytes) functions) ≡ true) → (is_in name.bytes names ≡ true) ⊎ (is_in name.bytes (map (λ (i : CFunction). i.name.bytes) (g ∷ functions)) ≡ true)
     shifted (inl there) = own (either (bytes_eq name.bytes g.name.bytes) (is_in name.bytes names) there)
     shifted (inr later) = inr (or_second (bytes_eq name.bytes g.name.bytes) (is_in name.bytes (map (λ (i : CFunction). i.name.bytes) functions)) later)
@@ -167,7 +167,6 @@ int_of_number : (b : Bool) (t : CType) → cond b (Some Int64) None ≡ Some t �
 int_of_number b t e = cond_some b Int64 t e
 
 module _ (program : CProgram) (values : List Cells) (formed : HaveForms program.structs program.globals values) where
-
   -- a number that is assigned is one cell
   one_cell : (e : CExpr) (t : CType) → cond (is_number program e) (Some Int64) None ≡ Some t → Good (λ c. HasForm program.structs c (form_of_type program.structs t)) (value_of program values e >>= λ z. Ok (Cell z))
   one_cell e t h =
@@ -205,9 +204,7 @@ pub record Kept (program : CProgram) : Type 0 where
   pub called : functions_known (event_names program) program.functions ≡ true
 
 module _ {E : Type 0} (program : CProgram) (kept : Kept program) (shows : List ℕ → List Cells → Option E) (shown : (name : List ℕ) (values : List Cells) → is_some (shows name values) ≡ true) where
-
   module _ (values : List Cells) (formed : HaveForms program.structs program.globals values) (frame : Frame) (callers : List Frame) (f : CFunction) (at : slice_get program.functions frame.function ≡ Some f) (calls : AllByRecursion (IsCall program) callers) where
-
     gone_steady : (label : List ℕ) → is_in label (labels_of f.body) ≡ true → IsSteady program (gone {E = E} f.body values frame callers label).config
     gone_steady label h =
         let there = label_there label f.body h in
@@ -302,9 +299,10 @@ sized_formed structs (Some n) t part h = equal_formed structs t part h n
 
 members_formed : (structs : List CStruct) (names : List (List ℕ)) (d : ℕ) → ((t : CType) → is_known names t ≡ true → HasForm structs (blank_within d structs t) (form_of_type structs t)) → (members : List CMember) → list_all (λ m. is_known names m.kind) members ≡ true → HasForm structs (row (map (λ (m : CMember). sized m.size (blank_within d structs m.kind)) members)) (Row (map kind_of_member members))
 members_formed structs names d blanks [] h = tt
-members_formed structs names d blanks (m ∷ members) h =
-    (sized_formed structs m.size m.kind (blank_within d structs m.kind) (blanks m.kind (left_of (is_known names m.kind) (list_all (λ m'. is_known names m'.kind) members) h)),
-     members_formed structs names d blanks members (right_of (is_known names m.kind) (list_all (λ m'. is_known names m'.kind) members) h))
+members_formed structs names d blanks (m ∷ members) h = (
+  sized_formed structs m.size m.kind (blank_within d structs m.kind) (blanks m.kind (left_of (is_known names m.kind) (list_all (λ m'. is_known names m'.kind) members) h)),
+  members_formed structs names d blanks members (right_of (is_known names m.kind) (list_all (λ m'. is_known names m'.kind) members) h),
+)
 
 -- a struct whose members are known is blank one level further
 struct_formed : (structs : List CStruct) (names : List (List ℕ)) (k d : ℕ) (name : Word) (members : List CMember) → k < d → members_of structs (Struct name) ≡ Some members → ((t : CType) → is_known names t ≡ true → IsBlank structs k t) → list_all (λ m. is_known names m.kind) members ≡ true → HasForm structs (blank_within (suc d) structs (Struct name)) (form_of_type structs (Struct name))
@@ -340,6 +338,7 @@ all_blank structs (s ∷ rest) names k h found blanks t known d less =
     split : (name : Word) → (bytes_eq name.bytes s.name.bytes ≡ true) ⊎ (is_in name.bytes (map (λ (x : CStruct). x.name.bytes) rest) ≡ true) → (is_known (s.name.bytes ∷ names) (Struct name) ≡ true) ⊎ (is_known (map (λ (x : CStruct). x.name.bytes) rest) (Struct name) ≡ true)
     split name (inl same) = inl (or_first (bytes_eq name.bytes s.name.bytes) (is_in name.bytes names) same)
     split name (inr later) = inr later
+
     shifted : (u : CType) → (is_known names u ≡ true) ⊎ (is_known (map (λ (x : CStruct). x.name.bytes) (s ∷ rest)) u ≡ true) → (is_known (s.name.bytes ∷ names) u ≡ true) ⊎ (is_known (map (λ (x : CStruct). x.name.bytes) rest) u ≡ true)
     shifted Int64 known' = inl refl
     shifted (Struct name) (inl there) = inl (or_second (bytes_eq name.bytes s.name.bytes) (is_in name.bytes names) there)
@@ -361,6 +360,7 @@ find_self (x ∷ structs) (suc i) s h e =
     later [] j e' = absurd (none-some s e')
     later (y ∷ list) zero e' = or_first _ _ ((bytes_eq-Decides s.name.bytes y.name.bytes).1 (ap (λ (z : CStruct). z.name.bytes) (sym (same_value y s e'))))
     later (y ∷ list) (suc j) e' = or_second (bytes_eq s.name.bytes y.name.bytes) (is_in s.name.bytes (map (λ (z : CStruct). z.name.bytes) list)) (later list j e')
+
     by_test : (b : Bool) → bytes_eq s.name.bytes x.name.bytes ≡ b → find (λ (y : CStruct). bytes_eq s.name.bytes y.name.bytes) structs ≡ Some s → find (λ (y : CStruct). bytes_eq s.name.bytes y.name.bytes) (x ∷ structs) ≡ Some s
     by_test true test among =
         let equal : s.name.bytes ≡ x.name.bytes = (bytes_eq-Decides s.name.bytes x.name.bytes).0 test in
@@ -382,7 +382,7 @@ twice_in_front (x ∷ xs) ys h =
     ∙ twice_in_front xs ys (or_right (is_in x (xs ++ ys)) (has_twice (xs ++ ys)) h)
 
 -- a chain of tests that comes to nothing
-unchained : {A : Type 0} (b : Bool) (x : A) (rest : Option A) → cond b (Some x) rest ≡ None → (b ≡ false) × (rest ≡ None)
+pub unchained : {A : Type 0} (b : Bool) (x : A) (rest : Option A) → cond b (Some x) rest ≡ None → (b ≡ false) × (rest ≡ None)
 unchained true x rest e = absurd (none-some x (sym e))
 unchained false x rest e = (refl, e)
 
@@ -406,9 +406,10 @@ passed program model h =
 
 globals_formed : (structs : List CStruct) (names : List (List ℕ)) → ((t : CType) → is_known names t ≡ true → HasForm structs (blank_type structs t) (form_of_type structs t)) → (globals : List CGlobal) → list_all (λ g. is_known names g.kind) globals ≡ true → HaveForms structs globals (map (λ (g : CGlobal). blank_type structs g.kind) globals)
 globals_formed structs names blanks [] h = tt
-globals_formed structs names blanks (g ∷ globals) h =
-    (blanks g.kind (left_of (is_known names g.kind) (list_all (λ g'. is_known names g'.kind) globals) h),
-     globals_formed structs names blanks globals (right_of (is_known names g.kind) (list_all (λ g'. is_known names g'.kind) globals) h))
+globals_formed structs names blanks (g ∷ globals) h = (
+  blanks g.kind (left_of (is_known names g.kind) (list_all (λ g'. is_known names g'.kind) globals) h),
+  globals_formed structs names blanks globals (right_of (is_known names g.kind) (list_all (λ g'. is_known names g'.kind) globals) h),
+)
 
 none_known : (structs : List CStruct) (t : CType) → is_known [] t ≡ true → IsBlank structs 0 t
 none_known structs Int64 known zero less = absurd (omega (arith, less))
