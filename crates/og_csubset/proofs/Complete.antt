@@ -1,5 +1,5 @@
 -- The reader finds each tree where the grammar has one. The fuel that the tokens' number gives always suffices.
-use Rattle.std.proofs.Common.{◌≡◌, ℕ, zero, suc, ◌+◌, ◌-◌, ◌^◌, ◌<◌, ◌≤◌, Bool, true, false, cond, List, [], ◌∷◌, length, IsTrue, ℤ, pos, negsuc, neg_ℤ, Option, Some, None, refl, sym, ap, ◌∙◌, subst, arith, le-leb, lt-ltb}
+use Rattle.std.proofs.Common.{◌≡◌, ℕ, zero, suc, ◌-◌, ◌^◌, ◌<◌, ◌≤◌, true, List, [], ◌∷◌, length, ℤ, pos, negsuc, Some, None, refl, sym, ap, ◌∙◌, subst, arith, le-leb, lt-ltb}
 use Rattle.std.proofs.lemmas.Bool.{true≢false}
 use Rattle.og_names.specs.declared.Word.{Word}
 use Rattle.og_csubset.specs.declared.CProgram.{CProgram}
@@ -7,10 +7,9 @@ use Rattle.og_csubset.specs.declared.CStruct.{CStruct}
 use Rattle.og_csubset.specs.declared.CMember.{CMember}
 use Rattle.og_csubset.specs.declared.CGlobal.{CGlobal}
 use Rattle.og_csubset.specs.declared.CType.{CType}
-use Rattle.og_csubset.specs.declared.CType.TheVariants.{Int64, Struct}
 use Rattle.og_csubset.specs.declared.CFunction.{CFunction}
 use Rattle.og_csubset.specs.declared.CStmt.{CStmt}
-use Rattle.og_csubset.specs.declared.CStmt.TheVariants.{Assign, IfGoto, Goto, Label, Switch, Call, Return}
+use Rattle.og_csubset.specs.declared.CStmt.TheVariants.{Assign}
 use Rattle.og_csubset.specs.declared.CCase.{CCase}
 use Rattle.og_csubset.specs.declared.CPlace.{CPlace}
 use Rattle.og_csubset.specs.declared.CStep.{CStep, Member, At}
@@ -19,39 +18,39 @@ use Rattle.og_csubset.specs.declared.CTest.{CTest}
 use Rattle.og_csubset.specs.declared.COp.{COp}
 use Rattle.og_csubset.specs.declared.COp.TheVariants.{Add, Sub, Mul, Div, Rem}
 use Rattle.og_csubset.specs.declared.CRel.{CRel}
-use Rattle.og_csubset.specs.Tokens.{Token, name, number, operator, relation, keyword, mark, Keyword, typedef_, struct_, void_, if_, goto_, switch_, case_, default_, return_, int64_t, INT64_C, Mark, open_brace, close_brace, open_square, close_square, open_round, close_round, semicolon, colon, question, dot, equals}
+use Rattle.og_csubset.specs.Tokens.{Token, name, number, operator, relation, keyword, mark, Mark, open_brace, close_brace, open_square, close_square, open_round, close_round, semicolon, colon, question, dot, equals}
 use Rattle.og_csubset.specs.Spelling.{word, least, literal, least_text, is_sum, is_product, IsSum, sum, SumGoesOn, sum_ends, add, IsProduct, product, ProductGoesOn, product_ends, multiply, IsSigned, positive, negative, minus_zero, unsigned, minus, IsOperand, read, bracket, pick, least_number, IsTest, test, IsPlace, place, IsPath, path_ends, member, index, Each, none, one_more, IsConstant, constant, negative_constant, least_constant, IsCase, case_goto, IsStatement, assign, if_goto, goto, label, switch, call, return, IsType, number_type, struct_type, IsMember, single, array, IsStruct, structure, IsGlobal, global, IsEvent, event, IsFunction, function, IsProgram, program, CSpells}
 use Rattle.og_csubset.proofs.Lexing.{HasTokens-unique}
 use Rattle.og_csubset.proofs.Seen.{not_least, Some-same}
-use Rattle.og_csubset.proofs.Reading.{Found, Reader, and_then, or_else, literal_at, least_at, least_end, negated, bracket_end, path_at, operand_at, signed_at, product_rest, product_at, sum_rest, sum_at, number_at, test_at, each_step, each_at, constant_at, case_at, named_at, goto_at, if_at, switch_at, return_at, statement_at, type_at, member_end, member_at, struct_end, struct_at, global_at, head_at, event_at, function_at, whole, program_at, read_tokens}
+use Rattle.og_csubset.proofs.Reading.{Found, Reader, least_at, negated, bracket_end, path_at, operand_at, signed_at, product_rest, product_at, sum_rest, sum_at, number_at, test_at, each_at, constant_at, case_at, named_at, goto_at, if_at, switch_at, return_at, statement_at, type_at, member_end, member_at, struct_end, struct_at, global_at, head_at, event_at, function_at, program_at, read_tokens}
 
 -- what a text of a number can go on with: at 0 a selector, at 1 an operator of a product, at 2 one of a sum, at 3 none
-abbrev operator_level : COp → ℕ
+abbrev pub operator_level : COp → ℕ
 operator_level Add = 2
 operator_level Sub = 2
 operator_level Mul = 1
 operator_level Div = 1
 operator_level Rem = 1
 
-abbrev mark_level : Mark → ℕ
+abbrev pub mark_level : Mark → ℕ
 mark_level dot = 0
 mark_level open_square = 0
 mark_level _ = 3
 
-abbrev level : List Token → ℕ
+abbrev pub level : List Token → ℕ
 level [] = 3
 level (operator op ∷ ts) = operator_level op
 level (mark m ∷ ts) = mark_level m
 level (_ ∷ ts) = 3
 
-level_sum : (op : COp) → is_sum op ≡ true → operator_level op ≡ 2
+pub level_sum : (op : COp) → is_sum op ≡ true → operator_level op ≡ 2
 level_sum Add h = refl
 level_sum Sub h = refl
 level_sum Mul h = absurd (true≢false (sym h))
 level_sum Div h = absurd (true≢false (sym h))
 level_sum Rem h = absurd (true≢false (sym h))
 
-level_product : (op : COp) → is_product op ≡ true → operator_level op ≡ 1
+pub level_product : (op : COp) → is_product op ≡ true → operator_level op ≡ 1
 level_product Add h = absurd (true≢false (sym h))
 level_product Sub h = absurd (true≢false (sym h))
 level_product Mul h = refl
@@ -60,7 +59,7 @@ level_product Rem h = refl
 
 -- each text takes tokens
 mutual
-  sum_shrinks : {e : CExpr} {ts rest : List Token} → IsSum e ts rest → length rest < length ts
+  pub sum_shrinks : {e : CExpr} {ts rest : List Token} → IsSum e ts rest → length rest < length ts
   sum_shrinks (sum p more) = omega (arith, product_shrinks p, sum_rest_shrinks more)
 
   sum_rest_shrinks : {a e : CExpr} {ts rest : List Token} → SumGoesOn a e ts rest → length rest ≤ length ts
@@ -74,7 +73,7 @@ mutual
   product_rest_shrinks product_ends = omega arith
   product_rest_shrinks (multiply is p more) = omega (arith, signed_shrinks p, product_rest_shrinks more)
 
-  signed_shrinks : {e : CExpr} {ts rest : List Token} → IsSigned e ts rest → length rest < length ts
+  pub signed_shrinks : {e : CExpr} {ts rest : List Token} → IsSigned e ts rest → length rest < length ts
   signed_shrinks positive = omega arith
   signed_shrinks negative = omega arith
   signed_shrinks minus_zero = omega arith
@@ -90,10 +89,10 @@ mutual
   test_shrinks : {t : CTest} {ts rest : List Token} → IsTest t ts rest → length rest < length ts
   test_shrinks (test p q) = omega (arith, sum_shrinks p, sum_shrinks q)
 
-  place_shrinks : {p : CPlace} {ts rest : List Token} → IsPlace p ts rest → length rest < length ts
+  pub place_shrinks : {p : CPlace} {ts rest : List Token} → IsPlace p ts rest → length rest < length ts
   place_shrinks (place p) = omega (arith, path_shrinks p)
 
-  path_shrinks : {steps : List CStep} {ts rest : List Token} → IsPath steps ts rest → length rest ≤ length ts
+  pub path_shrinks : {steps : List CStep} {ts rest : List Token} → IsPath steps ts rest → length rest ≤ length ts
   path_shrinks path_ends = omega arith
   path_shrinks (member p) = omega (arith, path_shrinks p)
   path_shrinks (index e p) = omega (arith, sum_shrinks e, path_shrinks p)
@@ -232,7 +231,7 @@ number_by zero ts r h some fits = absurd (omega arith)
 number_by (suc d) ts r h some fits = h d fits
 
 -- the tokens of -2^63, as a sum, end at a closing bracket
-least_sum : (d f : ℕ) (rest : List Token)
+pub least_sum : (d f : ℕ) (rest : List Token)
     → sum_at (number_at d) (suc (suc f)) (operator Sub ∷ literal (2 ^ 63 - 1) (operator Sub ∷ literal 1 (mark close_round ∷ rest)))
     ≡ Some (Op Sub (Number (negsuc (2 ^ 63 - 2))) (Number (pos 1)), mark close_round ∷ rest)
 unfolding sum_at product_at signed_at sum_rest product_rest
@@ -251,11 +250,14 @@ not_least_test d a op ts us h fits more same = go d (subst (λ l. number_at d l 
   where
     text : List Token
     text = operator Sub ∷ literal (2 ^ 63 - 1) (operator Sub ∷ literal 1 (mark close_round ∷ more))
+
     tail : List Token → List Token
     tail [] = []
     tail (u ∷ vs) = vs
+
     inside : ts ≡ text
     inside = ap tail same
+
     go : (k : ℕ) → number_at k text ≡ Some (a, relation op ∷ us) → length text ≤ k → ⊥
     go zero e within = absurd (omega (arith, within))
     go (suc zero) e within = absurd (omega (arith, within))
@@ -263,21 +265,21 @@ not_least_test d a op ts us h fits more same = go d (subst (λ l. number_at d l 
         let clash : mark close_round ≡ relation op = ap (λ o. behind o (mark dot)) (sym (least_sum (suc k) k more) ∙ e) in cc
 
 -- the levels at the ends of the parts
-sum_rest_level : {a e : CExpr} {ts rest : List Token} → SumGoesOn a e ts rest → level rest ≡ 3 → 1 < level ts
+pub sum_rest_level : {a e : CExpr} {ts rest : List Token} → SumGoesOn a e ts rest → level rest ≡ 3 → 1 < level ts
 sum_rest_level sum_ends h = omega arith
 sum_rest_level (add {op} is p more) h = omega (arith, level_sum op is)
 
-product_rest_level : {a e : CExpr} {ts rest : List Token} → ProductGoesOn a e ts rest → 1 < level rest → 0 < level ts
+pub product_rest_level : {a e : CExpr} {ts rest : List Token} → ProductGoesOn a e ts rest → 1 < level rest → 0 < level ts
 product_rest_level product_ends h = omega arith
 product_rest_level (multiply {op} is p more) h = omega (arith, level_product op is)
 
 mutual
-  sum_complete : {e : CExpr} {ts rest : List Token} → IsSum e ts rest → (d f : ℕ) → level rest ≡ 3 → length ts ≤ suc d → length ts ≤ f
+  pub sum_complete : {e : CExpr} {ts rest : List Token} → IsSum e ts rest → (d f : ℕ) → level rest ≡ 3 → length ts ≤ suc d → length ts ≤ f
       → sum_at (number_at d) f ts ≡ Some (e, rest)
   sum_complete (sum p more) d f ends fits enough =
       let shorter = product_shrinks p in
       sum_by (number_at d) f _ _ _ _ (product_complete p d f (sum_rest_level more ends) fits enough)
-          (sum_rest_complete more d f ends (omega arith) (omega arith))
+      (sum_rest_complete more d f ends (omega arith) (omega arith))
 
   sum_rest_complete : {a e : CExpr} {ts rest : List Token} → SumGoesOn a e ts rest → (d f : ℕ) → level rest ≡ 3 → length ts ≤ suc d → length ts ≤ f
       → sum_rest (number_at d) f a ts ≡ Some (e, rest)
@@ -286,14 +288,14 @@ mutual
   sum_rest_complete (add {op} is p more) d (suc f) ends fits enough =
       let shorter = product_shrinks p in
       sum_rest_by (number_at d) f op _ _ _ _ _ is (product_complete p d f (sum_rest_level more ends) (omega arith) (omega arith))
-          (sum_rest_complete more d f ends (omega arith) (omega arith))
+      (sum_rest_complete more d f ends (omega arith) (omega arith))
 
   product_complete : {e : CExpr} {ts rest : List Token} → IsProduct e ts rest → (d f : ℕ) → 1 < level rest → length ts ≤ suc d → length ts ≤ f
       → product_at (number_at d) f ts ≡ Some (e, rest)
   product_complete (product p more) d f ends fits enough =
       let shorter = signed_shrinks p in
       product_by (number_at d) f _ _ _ _ (signed_complete p d f (product_rest_level more ends) fits enough)
-          (product_rest_complete more d f ends (omega arith) (omega arith))
+      (product_rest_complete more d f ends (omega arith) (omega arith))
 
   product_rest_complete : {a e : CExpr} {ts rest : List Token} → ProductGoesOn a e ts rest → (d f : ℕ) → 1 < level rest → length ts ≤ suc d → length ts ≤ f
       → product_rest (number_at d) f a ts ≡ Some (e, rest)
@@ -302,7 +304,7 @@ mutual
   product_rest_complete (multiply {op} is p more) d (suc f) ends fits enough =
       let shorter = signed_shrinks p in
       product_rest_by (number_at d) f op _ _ _ _ _ is (signed_complete p d f (product_rest_level more ends) (omega arith) (omega arith))
-          (product_rest_complete more d f ends (omega arith) (omega arith))
+      (product_rest_complete more d f ends (omega arith) (omega arith))
 
   signed_complete : {e : CExpr} {ts rest : List Token} → IsSigned e ts rest → (d f : ℕ) → 0 < level rest → length ts ≤ suc d → length ts ≤ f
       → signed_at (number_at d) f ts ≡ Some (e, rest)
@@ -324,7 +326,7 @@ mutual
       let last_shorter = sum_shrinks r in
       let first = number_by d _ _ (λ k within. sum_complete p k (suc k) refl within within) (omega (arith, sum_shrinks p)) (omega arith) in
       pick_by (number_at d) f op _ _ _ _ _ _ _ _ _ (not_least _ (not_least_test d _ op _ _ first (omega arith))) first
-          (number_by d _ _ (λ k within. sum_complete q k (suc k) refl within within) (omega (arith, sum_shrinks q)) (omega arith)) (number_by d _ _ (λ k within. sum_complete r k (suc k) refl within within) (omega (arith, sum_shrinks r)) (omega arith)) (number_by d _ _ (λ k within. sum_complete s k (suc k) refl within within) (omega (arith, sum_shrinks s)) (omega arith))
+      (number_by d _ _ (λ k within. sum_complete q k (suc k) refl within within) (omega (arith, sum_shrinks q)) (omega arith)) (number_by d _ _ (λ k within. sum_complete r k (suc k) refl within within) (omega (arith, sum_shrinks r)) (omega arith)) (number_by d _ _ (λ k within. sum_complete s k (suc k) refl within within) (omega (arith, sum_shrinks s)) (omega arith))
   operand_complete least_number d f ends fits enough = least_by (number_at d) f _
 
   path_complete : {steps : List CStep} {ts rest : List Token} → IsPath steps ts rest → (d f : ℕ) → 0 < level rest → length ts ≤ suc d → length ts ≤ f
@@ -364,12 +366,12 @@ module _ {A : Type 0} (Is : A → List Token → List Token → Type 0) (one : R
       let shorter = shrinks _ _ _ p in
       rw (finds _ _ _ p fits, each_complete more f ends (omega arith) (omega arith))
 
-each_shrinks : {A : Type 0} {Is : A → List Token → List Token → Type 0} {xs : List A} {ts rest : List Token}
+pub each_shrinks : {A : Type 0} {Is : A → List Token → List Token → Type 0} {xs : List A} {ts rest : List Token}
     → ((x : A) (us vs : List Token) → Is x us vs → length vs < length us) → Each Is xs ts rest → length rest ≤ length ts
 each_shrinks h none = omega arith
 each_shrinks h (one_more p more) = omega (arith, h _ _ _ p, each_shrinks h more)
 
-constant_shrinks : {z : ℤ} {ts rest : List Token} → IsConstant z ts rest → length rest < length ts
+pub constant_shrinks : {z : ℤ} {ts rest : List Token} → IsConstant z ts rest → length rest < length ts
 constant_shrinks constant = omega arith
 constant_shrinks negative_constant = omega arith
 constant_shrinks least_constant = omega arith
@@ -380,14 +382,14 @@ constant_complete constant = refl
 constant_complete negative_constant = refl
 constant_complete least_constant = refl
 
-case_shrinks : (c : CCase) (ts rest : List Token) → IsCase c ts rest → length rest < length ts
+pub case_shrinks : (c : CCase) (ts rest : List Token) → IsCase c ts rest → length rest < length ts
 case_shrinks c ts rest (case_goto p) = omega (arith, constant_shrinks p)
 
 case_complete : (c : CCase) (ts rest : List Token) → IsCase c ts rest → case_at ts ≡ Some (c, rest)
 unfolding case_at
 case_complete c ts rest (case_goto p) = rw (constant_complete p)
 
-statement_shrinks : (s : CStmt) (ts rest : List Token) → IsStatement s ts rest → length rest < length ts
+pub statement_shrinks : (s : CStmt) (ts rest : List Token) → IsStatement s ts rest → length rest < length ts
 statement_shrinks s ts rest (assign p e) = omega (arith, place_shrinks p, sum_shrinks e)
 statement_shrinks s ts rest (if_goto t) = omega (arith, test_shrinks t)
 statement_shrinks s ts rest goto = omega arith
@@ -419,7 +421,7 @@ statement_complete d s ts rest (switch e cases) fits =
 statement_complete d s ts rest call fits = refl
 statement_complete d s ts rest return fits = refl
 
-type_shrinks : {k : CType} {ts rest : List Token} → IsType k ts rest → length rest < length ts
+pub type_shrinks : {k : CType} {ts rest : List Token} → IsType k ts rest → length rest < length ts
 type_shrinks number_type = omega arith
 type_shrinks struct_type = omega arith
 
@@ -428,7 +430,7 @@ unfolding type_at
 type_complete number_type = refl
 type_complete struct_type = refl
 
-member_shrinks : (m : CMember) (ts rest : List Token) → IsMember m ts rest → length rest < length ts
+pub member_shrinks : (m : CMember) (ts rest : List Token) → IsMember m ts rest → length rest < length ts
 member_shrinks m ts rest (single k) = omega (arith, type_shrinks k)
 member_shrinks m ts rest (array low high k) = omega (arith, type_shrinks k)
 
@@ -437,7 +439,7 @@ unfolding member_at member_end
 member_complete m ts rest (single k) = rw (type_complete k)
 member_complete m ts rest (array {n} low high k) = rw (type_complete k, lt-ltb 0 n low, le-leb n 65536 high)
 
-struct_shrinks : (s : CStruct) (ts rest : List Token) → IsStruct s ts rest → length rest < length ts
+pub struct_shrinks : (s : CStruct) (ts rest : List Token) → IsStruct s ts rest → length rest < length ts
 struct_shrinks s ts rest (structure ms) = omega (arith, each_shrinks member_shrinks ms)
 
 struct_complete : (d : ℕ) (s : CStruct) (ts rest : List Token) → IsStruct s ts rest → length ts ≤ d → struct_at d ts ≡ Some (s, rest)
@@ -445,21 +447,21 @@ unfolding struct_at struct_end member_at type_at
 struct_complete d s ts rest (structure ms) fits =
     rw (each_complete IsMember member_at d member_shrinks (λ m us vs p within. member_complete m us vs p) ms d refl (omega arith) (omega arith))
 
-global_shrinks : (g : CGlobal) (ts rest : List Token) → IsGlobal g ts rest → length rest < length ts
+pub global_shrinks : (g : CGlobal) (ts rest : List Token) → IsGlobal g ts rest → length rest < length ts
 global_shrinks g ts rest (global k) = omega (arith, type_shrinks k)
 
 global_complete : (g : CGlobal) (ts rest : List Token) → IsGlobal g ts rest → global_at ts ≡ Some (g, rest)
 unfolding global_at
 global_complete g ts rest (global k) = rw (type_complete k)
 
-event_shrinks : (e : Word) (ts rest : List Token) → IsEvent e ts rest → length rest < length ts
+pub event_shrinks : (e : Word) (ts rest : List Token) → IsEvent e ts rest → length rest < length ts
 event_shrinks e ts rest event = omega arith
 
 event_complete : (e : Word) (ts rest : List Token) → IsEvent e ts rest → event_at ts ≡ Some (e, rest)
 unfolding event_at head_at
 event_complete e ts rest event = refl
 
-function_shrinks : (f : CFunction) (ts rest : List Token) → IsFunction f ts rest → length rest < length ts
+pub function_shrinks : (f : CFunction) (ts rest : List Token) → IsFunction f ts rest → length rest < length ts
 function_shrinks f ts rest (function body) = omega (arith, each_shrinks statement_shrinks body)
 
 function_complete : (d : ℕ) (f : CFunction) (ts rest : List Token) → IsFunction f ts rest → length ts ≤ d → function_at d ts ≡ Some (f, rest)

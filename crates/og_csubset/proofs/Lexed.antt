@@ -1,20 +1,18 @@
 -- Where the first token is taken off the bytes it stands there; so a text is cut into tokens where it can be, and only there.
-use Rattle.std.proofs.Common.{◌≡◌, ℕ, zero, suc, ◌+◌, ◌-◌, ◌^◌, ◌<◌, ◌≤◌, Bool, true, false, cond, ◌&&◌, ◌||◌, not, List, [], ◌∷◌, ◌++◌, length, get_or, IsTrue, IsFalse, ◌==◌, if◌then◌else◌, nat_le, nat_lt, codes, bytes_eq, decimal, ◌⊎◌, inl, inr, ⊎_elim, Option, Some, None, option_map, refl, sym, ap, ◌∙◌, subst, arith, append_assoc, append-nil, length-append, eqb-true, ltb-true, ap₂}
+use Rattle.std.proofs.Common.{◌≡◌, ℕ, ◌^◌, ◌<◌, Bool, true, false, cond, ◌&&◌, ◌||◌, not, List, [], ◌∷◌, ◌++◌, ◌==◌, if◌then◌else◌, nat_lt, codes, bytes_eq, decimal, Option, Some, None, refl, sym, ap, ◌∙◌, subst, eqb-true, ltb-true, ap₂}
 use Rattle.std.specs.Prelude.{⊤}
 use Rattle.std.specs.List.{list_all}
 use Rattle.std.specs.Str.Parse.{digits_value}
-use Rattle.std.proofs.lemmas.Bool.{and_parts, and_from, true≢false, not_from_false, cases_Bool, or_left}
+use Rattle.std.proofs.lemmas.Bool.{and_parts, and_from, true≢false, not_from_false, or_left}
 use Rattle.std.proofs.lemmas.Slice.Eq.{bytes_eq-Decides}
-use Rattle.og_csubset.specs.declared.COp.{COp}
 use Rattle.og_csubset.specs.declared.COp.TheVariants.{Add, Sub, Mul, Div, Rem}
-use Rattle.og_csubset.specs.declared.CRel.{CRel}
 use Rattle.og_csubset.specs.declared.CRel.TheVariants.{Eq, Ne, Lt, Le, Gt, Ge}
-use Rattle.og_csubset.specs.Tokens.{Keyword, typedef_, struct_, void_, if_, goto_, switch_, case_, default_, return_, int64_t, INT64_C, Mark, open_brace, close_brace, open_square, close_square, open_round, close_round, semicolon, colon, question, dot, equals, Token, name, number, operator, relation, keyword, mark, spelling, keyword_spelling, is_letter, is_digit, is_word_byte, is_space, is_word, is_reserved, is_name, IsToken, joins, MayFollow, Begins, Cuts, Lexes, HasTokens, first_line}
-use Rattle.og_csubset.proofs.Lexing.{cut, StopsAt, keyword_of, word_token, number_token, with_rest, longer, sign_token, first_token, next_token, next-begins, cut-append}
+use Rattle.og_csubset.specs.Tokens.{Keyword, typedef_, struct_, void_, if_, goto_, switch_, case_, default_, return_, int64_t, INT64_C, open_brace, close_brace, open_square, close_square, open_round, close_round, semicolon, colon, question, dot, equals, Token, name, number, operator, relation, keyword, mark, spelling, keyword_spelling, is_letter, is_digit, is_word_byte, is_space, is_word, is_reserved, IsToken, joins, MayFollow, Begins}
+use Rattle.og_csubset.proofs.Lexing.{cut, StopsAt, keyword_of, word_token, number_token, with_rest, longer, sign_token, first_token, next_token}
 use Rattle.og_csubset.proofs.Seen.{nothing, Some-same, seen_cond}
 
 -- what the cut gives
-cut_joined : (p : ℕ → Bool) (bs : List ℕ) → bs ≡ (cut p bs).0 ++ (cut p bs).1
+pub cut_joined : (p : ℕ → Bool) (bs : List ℕ) → bs ≡ (cut p bs).0 ++ (cut p bs).1
 unfolding cut
 cut_joined p [] = refl
 cut_joined p (b ∷ bs) = go (p b) (cut_joined p bs)
@@ -24,7 +22,7 @@ cut_joined p (b ∷ bs) = go (p b) (cut_joined p bs)
     go true e = ap (λ l. b ∷ l) e
     go false e = refl
 
-cut_all : (p : ℕ → Bool) (bs : List ℕ) → list_all p (cut p bs).0 ≡ true
+pub cut_all : (p : ℕ → Bool) (bs : List ℕ) → list_all p (cut p bs).0 ≡ true
 unfolding cut
 cut_all p [] = refl
 cut_all p (b ∷ bs) = go (p b) refl (cut_all p bs)
@@ -33,7 +31,7 @@ cut_all p (b ∷ bs) = go (p b) refl (cut_all p bs)
     go true e more = and_from (p b) (list_all p (cut p bs).0) e more
     go false e more = refl
 
-cut_stops : (p : ℕ → Bool) (bs : List ℕ) → StopsAt p (cut p bs).1
+pub cut_stops : (p : ℕ → Bool) (bs : List ℕ) → StopsAt p (cut p bs).1
 unfolding cut
 cut_stops p [] = tt
 cut_stops p (b ∷ bs) = go (p b) refl (cut_stops p bs)
@@ -93,6 +91,7 @@ word_sound w t is h = go (is_reserved w) refl h
     follows : (rest : List ℕ) → StopsAt is_word_byte rest → MayFollow (name w) rest
     follows [] h = tt
     follows (b ∷ bs) h = h
+
     go : (c : Bool) → is_reserved w ≡ c → cond c (keyword_of w) (Some (name w)) ≡ Some t → WordIs w t
     go true e h = keyword_sound w t h
     go false e h = subst (λ u. WordIs w u) (Some-same (name w) t h) (record {
@@ -202,6 +201,7 @@ longer_stands b c long short (x ∷ us) r l s h = go (x == c) refl h
       is_token = k.1;
       follows = free t us k.2;
     })
+
     go : (d : Bool) → (x == c) ≡ d → cond d (with_rest long us) (with_rest short (x ∷ us)) ≡ Some r → Stands (b ∷ x ∷ us) r.0 r.1
     go true e h = long_stands long (eqb-true x c e) l h
     go false e h = short_stands b c short (x ∷ us) r s e h
@@ -247,9 +247,10 @@ first_stands (b ∷ bs) r h = letter (is_letter b) refl h
         → cond d (with_rest (number_token (cut is_digit (b ∷ bs)).0) (cut is_digit (b ∷ bs)).1) (sign_token b bs) ≡ Some r → Stands (b ∷ bs) r.0 r.1
     digit true e h = number_stands b bs r h
     digit false e h = sign_stands b bs r h
+
     letter : (d : Bool) → is_letter b ≡ d
         → cond d (with_rest (word_token (cut is_word_byte (b ∷ bs)).0) (cut is_word_byte (b ∷ bs)).1)
-            (if is_digit b then with_rest (number_token (cut is_digit (b ∷ bs)).0) (cut is_digit (b ∷ bs)).1 else sign_token b bs) ≡ Some r
+        (if is_digit b then with_rest (number_token (cut is_digit (b ∷ bs)).0) (cut is_digit (b ∷ bs)).1 else sign_token b bs) ≡ Some r
         → Stands (b ∷ bs) r.0 r.1
     letter true e h = word_stands b bs r e h
     letter false e h = digit (is_digit b) refl h

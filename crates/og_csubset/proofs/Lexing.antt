@@ -1,10 +1,10 @@
 -- A text cuts into tokens in one way: a function that takes the first token off the bytes finds each token that stands there.
-use Rattle.std.proofs.Common.{◌≡◌, ℕ, zero, suc, ◌+◌, ◌^◌, ◌<◌, ◌≤◌, Bool, true, false, cond, ◌&&◌, ◌||◌, not, List, [], ◌∷◌, ◌++◌, length, IsTrue, IsFalse, ◌==◌, if◌then◌else◌, nat_le, nat_lt, codes, bytes_eq, decimal, Option, Some, None, option_map, refl, sym, ap, ◌∙◌, subst, arith, append_assoc, append-nil, eqb-true, ap₂, unwrap_or}
+use Rattle.std.proofs.Common.{◌≡◌, ℕ, ◌^◌, ◌<◌, Bool, true, false, cond, ◌&&◌, ◌||◌, not, List, [], ◌∷◌, ◌++◌, length, IsFalse, ◌==◌, if◌then◌else◌, nat_le, nat_lt, codes, bytes_eq, decimal, Option, Some, None, refl, sym, ap, ◌∙◌, subst, arith, append-nil, ap₂, unwrap_or}
 use Rattle.std.specs.Prelude.{⊤}
-use Rattle.std.specs.List.{list_all, list_any}
+use Rattle.std.specs.List.{list_all}
 use Rattle.std.specs.Int.{IsInRange}
-use Rattle.std.specs.Str.Parse.{digits_value, IsNumeral}
-use Rattle.std.proofs.lemmas.Bool.{and_parts, and_from, true≢false, not-true, leb-true, le-leb, lt-leb, or_from, or_left, or_parts, lt-ltb}
+use Rattle.std.specs.Str.Parse.{digits_value}
+use Rattle.std.proofs.lemmas.Bool.{and_parts, and_from, true≢false, not-true, leb-true, le-leb, or_left, lt-ltb}
 use Rattle.std.proofs.lemmas.Bool.Decides.{nat_tests}
 use Rattle.std.proofs.lemmas.Str.Parse.{IsDigitsTest, IsNumeralModel, numerals_by_value}
 use Rattle.std.proofs.lemmas.Fmt.{digits_decimal, digits_value-decimal, decimal_nonempty}
@@ -14,7 +14,7 @@ use Rattle.og_csubset.specs.declared.COp.{COp}
 use Rattle.og_csubset.specs.declared.COp.TheVariants.{Add, Sub, Mul, Div, Rem}
 use Rattle.og_csubset.specs.declared.CRel.{CRel}
 use Rattle.og_csubset.specs.declared.CRel.TheVariants.{Eq, Ne, Lt, Le, Gt, Ge}
-use Rattle.og_csubset.specs.Tokens.{Keyword, typedef_, struct_, void_, if_, goto_, switch_, case_, default_, return_, int64_t, INT64_C, Mark, open_brace, close_brace, open_square, close_square, open_round, close_round, semicolon, colon, question, dot, equals, Token, name, number, operator, relation, keyword, mark, spelling, is_between, is_letter, is_digit, is_word_byte, is_space, is_word, is_reserved, is_name, IsToken, joins, MayFollow, Begins, Cuts, Lexes, HasTokens, first_line}
+use Rattle.og_csubset.specs.Tokens.{Keyword, typedef_, struct_, void_, if_, goto_, switch_, case_, default_, return_, int64_t, INT64_C, Mark, open_brace, close_brace, open_square, close_square, open_round, close_round, semicolon, colon, question, dot, equals, Token, name, number, operator, relation, keyword, mark, spelling, is_letter, is_digit, is_word_byte, is_space, is_word, is_reserved, is_name, IsToken, joins, MayFollow, Begins, Cuts, Lexes, HasTokens, first_line}
 
 -- the bytes before the first one that fails the test, and the others
 unfoldable pub cut : (ℕ → Bool) → List ℕ → List ℕ × List ℕ
@@ -138,7 +138,6 @@ pub digit_to : (b : ℕ) → IsInRange 48 57 b → is_digit b ≡ true
 digit_to b h = and_from (nat_le 48 b) (nat_le b 57) (le-leb 48 b h.0) (le-leb b 57 h.1)
 
 tells : IsDigitsTest all_digits
-unfolding all_digits
 tells = record {
   empty = refl;
   parts = λ c cs h. (digit_from c (and_parts (is_digit c) (list_all is_digit cs) h).0, (and_parts (is_digit c) (list_all is_digit cs) h).1);
@@ -149,7 +148,6 @@ pub own : IsNumeralModel all_digits (digits_value 10)
 own = numerals_by_value all_digits tells
 
 is_digits : (n : ℕ) → n < 2 ^ 63 → list_all is_digit (decimal n) ≡ true
-unfolding all_digits
 is_digits n h = digits_decimal own n (omega arith)
 
 same_bytes : (w : List ℕ) → bytes_eq w w ≡ true
@@ -298,7 +296,7 @@ relation_space Le rest = refl
 relation_space Gt rest = refl
 relation_space Ge rest = refl
 
-no_space_first : (t : Token) (rest : List ℕ) → IsToken t → StopsAt is_space (spelling t ++ rest)
+pub no_space_first : (t : Token) (rest : List ℕ) → IsToken t → StopsAt is_space (spelling t ++ rest)
 no_space_first (name w) rest is = name_space w rest (and_parts (is_word w) (not (is_reserved w)) is).0
 no_space_first (number n) rest is = number_space n (decimal n) rest is refl
 no_space_first (operator op) rest is = operator_space op rest

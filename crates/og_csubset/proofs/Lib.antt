@@ -1,14 +1,13 @@
 pub mod Lexing
-mod Reading
-mod Seen
-mod Complete
-mod Sound
-mod Lexed
-mod Text
-mod Examples
-mod Nested
-mod Sizes
-mod PlainTexts
+pub mod Reading
+pub mod Seen
+pub mod Complete
+pub mod Sound
+pub mod Lexed
+pub mod Text
+pub mod Nested
+pub mod Sizes
+pub mod PlainTexts
 pub mod Depth
 pub mod MachineRuns
 pub mod RunLaws
@@ -17,7 +16,18 @@ pub mod ExampleRuns
 pub mod FlatExampleRuns
 pub mod Extension
 pub mod ExtensionRuns
+pub mod TextExamples
+pub mod PlainSpelt
+pub mod TextLayout
+pub mod WrongPlace
+pub mod WellMade
 pub mod Forms
 pub mod Steady
 pub mod Layouts
 pub mod Beginnings
+pub mod Recognizer
+pub mod Accepted
+pub mod Recognized
+pub mod Viable
+pub mod Judged
+pub mod OneAnswer

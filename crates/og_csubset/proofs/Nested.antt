@@ -1,28 +1,27 @@
 -- A text that nests too deep has one place where it does, and a text that does not has none.
-use Rattle.std.proofs.Common.{◌≡◌, ℕ, zero, suc, ◌+◌, ◌<◌, ◌≤◌, max, Bool, true, false, cond, nat_lt, List, [], ◌∷◌, ◌++◌, length, ◌⊎◌, inl, inr, ⊎_elim, Option, Some, None, option_map, refl, sym, ap, ◌∙◌, subst, arith, append_assoc, ap₂, le_trans, ltb-true, ltb-false, le-ltb}
+use Rattle.std.proofs.Common.{◌≡◌, ℕ, ◌<◌, ◌≤◌, List, [], ◌∷◌, ◌++◌, ⊎_elim, None, refl, sym, ap, ◌∙◌, subst, arith, append_assoc, ap₂, le_trans, le-ltb}
 use Rattle.std.proofs.Math.Nat.{le-max_left, le-max_right, max-le}
 use Rattle.std.proofs.lemmas.Bool.{cases_lt}
 use Rattle.std.proofs.lemmas.List.{append_cancel_left, append_cancel_right}
-use Rattle.og_csubset.specs.Tokens.{Token, spelling, Begins, Cuts, Lexes, HasTokens, first_line}
+use Rattle.og_csubset.specs.Tokens.{Token, spelling, Begins, Cuts, HasTokens, first_line}
 use Rattle.og_csubset.specs.Nesting.{Nest, outermost, after_token, after_tokens, nesting_from, nesting, first_past_from, first_past, IsWithinNesting, PassesNesting}
-use Rattle.og_csubset.proofs.Lexing.{same_first, nothing_first, HasTokens-unique}
-use Rattle.og_csubset.proofs.Seen.{nothing, Some-same}
+use Rattle.og_csubset.proofs.Lexing.{same_first, nothing_first}
 
-abbrev depth : Nest → ℕ
+abbrev pub depth : Nest → ℕ
 depth nest = nest.level.depth
 
-first_within : (limit : ℕ) (n : Nest) (t : Token) (ts : List Token) → nesting_from n (t ∷ ts) ≤ limit → depth (after_token t n) ≤ limit
+pub first_within : (limit : ℕ) (n : Nest) (t : Token) (ts : List Token) → nesting_from n (t ∷ ts) ≤ limit → depth (after_token t n) ≤ limit
 first_within limit n t ts h = le_trans (le-max_left (depth (after_token t n)) (nesting_from (after_token t n) ts)) h
 
-others_within : (limit : ℕ) (n : Nest) (t : Token) (ts : List Token) → nesting_from n (t ∷ ts) ≤ limit → nesting_from (after_token t n) ts ≤ limit
+pub others_within : (limit : ℕ) (n : Nest) (t : Token) (ts : List Token) → nesting_from n (t ∷ ts) ≤ limit → nesting_from (after_token t n) ts ≤ limit
 others_within limit n t ts h = le_trans (le-max_right (depth (after_token t n)) (nesting_from (after_token t n) ts)) h
 
 -- from a state on: these tokens stand before one that passes the limit first
-record Passes (limit : ℕ) (n : Nest) (body : List ℕ) (ts : List Token) (t : Token) (here rest : List ℕ) : Type 0 where
-  cuts : Cuts ts body here
-  begins : Begins here t rest
-  within : nesting_from n ts ≤ limit
-  past : limit < depth (after_tokens (ts ++ t ∷ []) n)
+pub record Passes (limit : ℕ) (n : Nest) (body : List ℕ) (ts : List Token) (t : Token) (here rest : List ℕ) : Type 0 where
+  pub cuts : Cuts ts body here
+  pub begins : Begins here t rest
+  pub within : nesting_from n ts ≤ limit
+  pub past : limit < depth (after_tokens (ts ++ t ∷ []) n)
 
 -- all that the place is made of
 record Same (here there : List ℕ) (t u : Token) (rest more : List ℕ) : Type 0 where
@@ -59,8 +58,8 @@ one_way limit n body (v ∷ ts) (w ∷ us) t u here there rest more p q =
       past = q.past;
     } in
     let q'' : Passes limit (after_token v n) p.cuts.0 us u there more =
-        subst (λ x. Passes limit (after_token x n) p.cuts.0 us u there more) (sym same.0)
-            (subst (λ b. Passes limit (after_token w n) b us u there more) (sym same.1) q') in
+    subst (λ x. Passes limit (after_token x n) p.cuts.0 us u there more) (sym same.0)
+    (subst (λ b. Passes limit (after_token w n) b us u there more) (sym same.1) q') in
     one_way limit (after_token v n) p.cuts.0 ts us t u here there rest more p' q''
 
 passes : (limit : ℕ) (text before : List ℕ) (h : PassesNesting limit text before) → Passes limit outermost h.body h.tokens h.token h.here h.rest
@@ -70,7 +69,7 @@ pub PassesNesting-unique : (limit : ℕ) (text before other : List ℕ) → Pass
 PassesNesting-unique limit text before other h k =
     let body : h.body ≡ k.body = append_cancel_left first_line h.body k.body (sym h.starts ∙ k.starts) in
     let same = one_way limit outermost h.body h.tokens k.tokens h.token k.token h.here k.here h.rest k.rest (passes limit text before h)
-        (subst (λ b. Passes limit outermost b k.tokens k.token k.here k.rest) (sym body) (passes limit text other k)) in
+    (subst (λ b. Passes limit outermost b k.tokens k.token k.here k.rest) (sym body) (passes limit text other k)) in
     let behind : spelling h.token ++ h.rest ≡ spelling k.token ++ k.rest = ap₂ (λ t r. spelling t ++ r) same.token_same same.rest_same in
     append_cancel_right before other (spelling k.token ++ k.rest) (sym (ap (λ l. before ++ l) behind) ∙ (sym h.place ∙ k.place))
 
@@ -92,30 +91,30 @@ no_way limit n body end (v ∷ ts) (u ∷ us) t here rest c blank w p =
       past = p.past;
     } in
     let p'' : Passes limit (after_token u n) c.0 ts t here rest =
-        subst (λ x. Passes limit (after_token x n) c.0 ts t here rest) same.0
-            (subst (λ b. Passes limit (after_token v n) b ts t here rest) same.1 p') in
+    subst (λ x. Passes limit (after_token x n) c.0 ts t here rest) same.0
+    (subst (λ b. Passes limit (after_token v n) b ts t here rest) same.1 p') in
     no_way limit (after_token u n) c.0 end ts us t here rest c.2 blank (others_within limit n u us w) p''
 
 pub within_or_past : (limit : ℕ) (text before : List ℕ) → PassesNesting limit text before → IsWithinNesting limit text → ⊥
 within_or_past limit text before h k =
     let body : h.body ≡ k.1.0 = append_cancel_left first_line h.body k.1.0 (sym h.starts ∙ k.1.1) in
     no_way limit outermost k.1.0 k.1.2.0 h.tokens k.0 h.token h.here h.rest k.1.2.1 (λ v r b. nothing_first k.1.2.0 v r k.1.2.2 b) k.2
-        (subst (λ b. Passes limit outermost b h.tokens h.token h.here h.rest) body (passes limit text before h))
+    (subst (λ b. Passes limit outermost b h.tokens h.token h.here h.rest) body (passes limit text before h))
 
 regroup : (a b c d : List ℕ) → a ++ (b ++ (c ++ d)) ≡ (a ++ (b ++ c)) ++ d
 regroup a b c d = simp append_assoc
 
 -- the way to the first token that passes
-record Way (limit : ℕ) (n : Nest) (body : List ℕ) : Type 0 where
-  tokens : List Token
-  token : Token
-  here : List ℕ
-  rest : List ℕ
-  bytes : List ℕ
-  joined : body ≡ bytes ++ here
-  goes : Passes limit n body tokens token here rest
+pub record Way (limit : ℕ) (n : Nest) (body : List ℕ) : Type 0 where
+  pub tokens : List Token
+  pub token : Token
+  pub here : List ℕ
+  pub rest : List ℕ
+  pub bytes : List ℕ
+  pub joined : body ≡ bytes ++ here
+  pub goes : Passes limit n body tokens token here rest
 
-way : (limit : ℕ) (n : Nest) (body end : List ℕ) (ts : List Token) → Cuts ts body end → limit < nesting_from n ts → Way limit n body
+pub way : (limit : ℕ) (n : Nest) (body end : List ℕ) (ts : List Token) → Cuts ts body end → limit < nesting_from n ts → Way limit n body
 way limit n body end [] c h = absurd (omega (arith, h))
 way limit n body end (t ∷ ts) c h = ⊎_elim at_once (later (λ more. way limit (after_token t n) c.0 end ts c.2 more)) (cases_lt limit (depth (after_token t n)))
   where
@@ -129,10 +128,11 @@ way limit n body end (t ∷ ts) c h = ⊎_elim at_once (later (λ more. way limi
       joined = refl;
       goes = record { cuts = refl; begins = c.1; within = omega arith; past = past };
     }
+
     later : (limit < nesting_from (after_token t n) ts → Way limit (after_token t n) c.0) → depth (after_token t n) ≤ limit → Way limit n body
     later go within =
         let more : limit < nesting_from (after_token t n) ts =
-            ⊎_elim (λ k. k) (λ k. let all = max-le within k in absurd (omega (arith, h, all))) (cases_lt limit (nesting_from (after_token t n) ts)) in
+        ⊎_elim (λ k. k) (λ k. let all = max-le within k in absurd (omega (arith, h, all))) (cases_lt limit (nesting_from (after_token t n) ts)) in
         let w = go more in
         record {
           tokens = t ∷ w.tokens;
@@ -144,24 +144,31 @@ way limit n body end (t ∷ ts) c h = ⊎_elim at_once (later (λ more. way limi
           goes = record { cuts = (c.0, c.1, w.goes.cuts); begins = w.goes.begins; within = max-le within w.goes.within; past = w.goes.past };
         }
 
+-- tokens at the beginning of a text that pass the limit have a first one that does
+pub past_in : (limit : ℕ) (text body end : List ℕ) (tokens : List Token) → text ≡ first_line ++ body → Cuts tokens body end → limit < nesting tokens
+    → (before : List ℕ) × PassesNesting limit text before
+past_in limit text body end tokens starts cuts past =
+    let w = way limit outermost body end tokens cuts past in
+    let b = w.goes.begins in (
+      first_line ++ (w.bytes ++ b.space),
+      record {
+        tokens = w.tokens;
+        token = w.token;
+        body = body;
+        here = w.here;
+        rest = w.rest;
+        starts = starts;
+        cuts = w.goes.cuts;
+        begins = b;
+        place = starts ∙ (ap (λ l. first_line ++ l) (w.joined ∙ ap (λ l. w.bytes ++ l) b.joined) ∙ regroup first_line w.bytes b.space (spelling w.token ++ w.rest));
+        within = w.goes.within;
+        past = w.goes.past;
+      },
+    )
+
 pub past_somewhere : (limit : ℕ) (text : List ℕ) (tokens : List Token) → HasTokens tokens text → limit < nesting tokens
     → (before : List ℕ) × PassesNesting limit text before
-past_somewhere limit text tokens h past =
-    let w = way limit outermost h.0 h.2.0 tokens h.2.1 past in
-    let b = w.goes.begins in
-    (first_line ++ (w.bytes ++ b.space), record {
-      tokens = w.tokens;
-      token = w.token;
-      body = h.0;
-      here = w.here;
-      rest = w.rest;
-      starts = h.1;
-      cuts = w.goes.cuts;
-      begins = b;
-      place = h.1 ∙ (ap (λ l. first_line ++ l) (w.joined ∙ ap (λ l. w.bytes ++ l) b.joined) ∙ regroup first_line w.bytes b.space (spelling w.token ++ w.rest));
-      within = w.goes.within;
-      past = w.goes.past;
-    })
+past_somewhere limit text tokens h past = past_in limit text h.0 h.2.0 tokens h.1 h.2.1 past
 
 -- the first token that passes, counted
 first_past-none : (limit : ℕ) (n : Nest) (ts : List Token) → nesting_from n ts ≤ limit → first_past_from limit n ts ≡ None

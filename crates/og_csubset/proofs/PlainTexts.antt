@@ -1,16 +1,16 @@
 -- The plain text of each tree, from the plain texts of its parts.
-use Rattle.std.proofs.Common.{◌≡◌, ℕ, zero, suc, ◌+◌, ◌-◌, ◌^◌, ◌<◌, ◌≤◌, Bool, true, false, cond, ◌&&◌, ◌==◌, List, [], ◌∷◌, map, ℤ, pos, negsuc, Option, Some, None, refl, sym, ap, ◌∙◌, subst, arith}
+use Rattle.std.proofs.Common.{◌≡◌, List, ◌∷◌, map, ℤ, None, sym, ap, ◌∙◌}
 use Rattle.og_names.specs.declared.Word.{Word}
-use Rattle.og_csubset.specs.declared.CPlace.{CPlace, fold-CPlace, fold-roll-CPlace}
+use Rattle.og_csubset.specs.declared.CPlace.{CPlace, fold-roll-CPlace}
 use Rattle.og_csubset.specs.declared.CStep.{CStep, Member, At, fold-CStep, fold-roll-CStep, roll-CStep}
-use Rattle.og_csubset.specs.declared.CExpr.{CExpr, Number, Read, Minus, Op, Pick, fold-CExpr, fold-roll-CExpr}
+use Rattle.og_csubset.specs.declared.CExpr.{CExpr, Number, Read, Minus, Op, Pick, fold-roll-CExpr}
 use Rattle.og_csubset.specs.declared.CExpr.TheOpen as open'
 use Rattle.og_csubset.specs.declared.CExpr.TheVariants.{rolls-Number, rolls-Read, rolls-Minus, rolls-Op, rolls-Pick}
-use Rattle.og_csubset.specs.declared.CTest.{CTest, fold-CTest, fold-roll-CTest}
+use Rattle.og_csubset.specs.declared.CTest.{CTest, fold-roll-CTest}
 use Rattle.og_csubset.specs.declared.COp.{COp}
 use Rattle.og_csubset.specs.declared.COp.TheVariants.{Sub}
 use Rattle.og_csubset.specs.declared.CRel.{CRel}
-use Rattle.og_csubset.specs.Tokens.{Token, name, number, operator, relation, keyword, mark, open_round, close_round, open_square, close_square, question, colon, dot}
+use Rattle.og_csubset.specs.Tokens.{name, operator, relation, mark, open_round, close_round, open_square, close_square, question, colon, dot}
 use Rattle.og_csubset.specs.Plain.{Text, Piece, piece, number_piece, behind_sign, op_piece, expression_piece, step_text, joined, place_text, test_text, plain_piece, plain_place, plain_test, plain_number}
 
 pub plain_step : CStep → Text

@@ -1,7 +1,7 @@
 -- Reading a program off its tokens, from left to right. Each reader gives the tree that the tokens begin with and the tokens
 -- behind it. `inner` reads a whole number one bracket further inside; a second number bounds how often a repetition goes
 -- round. Both are at most the number of the tokens in the end.
-use Rattle.std.proofs.Common.{◌≡◌, ℕ, zero, suc, ◌+◌, ◌-◌, ◌^◌, ◌<◌, ◌≤◌, Bool, true, false, cond, ◌&&◌, List, [], ◌∷◌, length, ◌==◌, nat_lt, nat_le, ℤ, pos, negsuc, neg_ℤ, Option, Some, None, option_map}
+use Rattle.std.proofs.Common.{ℕ, zero, suc, ◌-◌, ◌^◌, cond, ◌&&◌, List, [], ◌∷◌, length, ◌==◌, nat_lt, nat_le, ℤ, pos, negsuc, neg_ℤ, Option, Some, None}
 use Rattle.og_names.specs.declared.Word.{Word}
 use Rattle.og_csubset.specs.declared.CProgram.{CProgram}
 use Rattle.og_csubset.specs.declared.CStruct.{CStruct}
@@ -13,12 +13,10 @@ use Rattle.og_csubset.specs.declared.CFunction.{CFunction}
 use Rattle.og_csubset.specs.declared.CStmt.{CStmt}
 use Rattle.og_csubset.specs.declared.CStmt.TheVariants.{Assign, IfGoto, Goto, Label, Switch, Call, Return}
 use Rattle.og_csubset.specs.declared.CCase.{CCase}
-use Rattle.og_csubset.specs.declared.CPlace.{CPlace}
 use Rattle.og_csubset.specs.declared.CStep.{CStep, Member, At}
 use Rattle.og_csubset.specs.declared.CExpr.{CExpr, Number, Read, Minus, Op, Pick}
 use Rattle.og_csubset.specs.declared.CTest.{CTest}
-use Rattle.og_csubset.specs.declared.COp.{COp}
-use Rattle.og_csubset.specs.declared.COp.TheVariants.{Add, Sub, Mul, Div, Rem}
+use Rattle.og_csubset.specs.declared.COp.TheVariants.{Sub}
 use Rattle.og_csubset.specs.declared.CRel.{CRel}
 use Rattle.og_csubset.specs.Tokens.{Token, name, number, operator, relation, keyword, mark, Keyword, typedef_, struct_, void_, if_, goto_, switch_, case_, default_, return_, int64_t, INT64_C, Mark, open_brace, close_brace, open_square, close_square, open_round, close_round, semicolon, colon, question, dot, equals}
 use Rattle.og_csubset.specs.Spelling.{word, least, is_sum, is_product}

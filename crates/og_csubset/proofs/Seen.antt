@@ -1,8 +1,7 @@
 -- What the tokens are where a part of the reader found something.
-use Rattle.std.proofs.Common.{◌≡◌, ℕ, zero, suc, ◌+◌, ◌-◌, ◌^◌, Bool, true, false, cond, List, [], ◌∷◌, ◌==◌, Option, Some, None, refl, sym, ap, ◌∙◌, subst, eqb-true, inl, inr, ◌⊎◌}
+use Rattle.std.proofs.Common.{◌≡◌, ℕ, zero, suc, ◌-◌, ◌^◌, Bool, true, false, cond, List, [], ◌∷◌, ◌==◌, Option, Some, None, refl, sym, ap, ◌∙◌, eqb-true, inl, inr, ◌⊎◌}
 use Rattle.std.proofs.lemmas.Bool.{true≢false}
 use Rattle.og_csubset.specs.declared.CExpr.{CExpr, Number}
-use Rattle.og_csubset.specs.declared.COp.{COp}
 use Rattle.og_csubset.specs.declared.COp.TheVariants.{Add, Sub, Mul, Div, Rem}
 use Rattle.og_csubset.specs.declared.CRel.{CRel}
 use Rattle.og_csubset.specs.Tokens.{Token, name, number, operator, relation, keyword, mark, Keyword, typedef_, struct_, void_, if_, goto_, switch_, case_, default_, return_, int64_t, INT64_C, Mark, open_brace, close_brace, open_square, close_square, open_round, close_round, semicolon, colon, question, dot, equals}
@@ -36,7 +35,7 @@ mark_of_mark_number question = refl
 mark_of_mark_number dot = refl
 mark_of_mark_number equals = refl
 
-same_mark_number : (m k : Mark) → (mark_number m == mark_number k) ≡ true → m ≡ k
+pub same_mark_number : (m k : Mark) → (mark_number m == mark_number k) ≡ true → m ≡ k
 same_mark_number m k h = sym (mark_of_mark_number m) ∙ ap mark_of (eqb-true (mark_number m) (mark_number k) h) ∙ mark_of_mark_number k
 
 keyword_of : ℕ → Keyword
@@ -66,7 +65,7 @@ keyword_of_keyword_number return_ = refl
 keyword_of_keyword_number int64_t = refl
 keyword_of_keyword_number INT64_C = refl
 
-same_keyword_number : (m k : Keyword) → (keyword_number m == keyword_number k) ≡ true → m ≡ k
+pub same_keyword_number : (m k : Keyword) → (keyword_number m == keyword_number k) ≡ true → m ≡ k
 same_keyword_number m k h = sym (keyword_of_keyword_number m) ∙ ap keyword_of (eqb-true (keyword_number m) (keyword_number k) h) ∙ keyword_of_keyword_number k
 
 -- nothing is not something

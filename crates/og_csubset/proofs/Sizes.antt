@@ -1,10 +1,10 @@
 -- The parts of a tree are smaller.
-use Rattle.std.proofs.Common.{◌≡◌, ℕ, zero, suc, ◌+◌, ◌<◌, ◌≤◌, List, [], ◌∷◌, refl, sym, ap, ◌∙◌, subst, arith}
+use Rattle.std.proofs.Common.{ℕ, suc, ◌<◌, ◌≤◌, List, [], ◌∷◌, arith}
 use Rattle.std.specs.Prelude.{⊤}
 use Rattle.og_names.specs.declared.Word.{Word}
 use Rattle.og_csubset.specs.declared.CPlace.{CPlace, size-CPlace, size_is-CPlace}
-use Rattle.og_csubset.specs.declared.CStep.{CStep, Member, At, size-CStep}
-use Rattle.og_csubset.specs.declared.CExpr.{CExpr, Number, Read, Minus, Op, Pick, size-CExpr}
+use Rattle.og_csubset.specs.declared.CStep.{CStep, At, size-CStep}
+use Rattle.og_csubset.specs.declared.CExpr.{CExpr, Read, Minus, Op, Pick, size-CExpr}
 use Rattle.og_csubset.specs.declared.CTest.{CTest, size-CTest, size_is-CTest}
 use Rattle.og_csubset.specs.declared.COp.{COp}
 use Rattle.og_csubset.specs.declared.CRel.{CRel}

@@ -1,11 +1,10 @@
 -- Reading a program off the bytes of a text: it finds exactly the program that the text spells.
-use Rattle.std.proofs.Common.{◌≡◌, ℕ, zero, suc, ◌+◌, ◌<◌, ◌≤◌, Bool, true, false, cond, List, [], ◌∷◌, ◌++◌, length, ◌==◌, if◌then◌else◌, Option, Some, None, option_map, option_and_then, refl, sym, ap, ◌∙◌, subst, arith, append-nil, length-append, eqb-true, eq-eqb, ap₂}
+use Rattle.std.proofs.Common.{◌≡◌, ℕ, zero, suc, ◌<◌, ◌≤◌, Bool, true, false, cond, List, [], ◌∷◌, ◌++◌, length, ◌==◌, Option, Some, None, option_map, option_and_then, refl, sym, ap, ◌∙◌, subst, arith, length-append, eqb-true, eq-eqb, ap₂}
 use Rattle.std.specs.List.{list_all}
-use Rattle.std.proofs.lemmas.Bool.{true≢false, cases_Bool}
 use Rattle.og_csubset.specs.declared.CProgram.{CProgram}
-use Rattle.og_csubset.specs.Tokens.{Token, spelling, is_space, IsToken, Begins, Cuts, Lexes, HasTokens, first_line}
+use Rattle.og_csubset.specs.Tokens.{Token, spelling, is_space, IsToken, Begins, Lexes, HasTokens, first_line}
 use Rattle.og_csubset.specs.Nesting.{nesting, HasNesting}
-use Rattle.og_csubset.specs.Spelling.{IsProgram, CSpells}
+use Rattle.og_csubset.specs.Spelling.{CSpells}
 use Rattle.og_csubset.proofs.Lexing.{first_token, next_token, next-begins, next-blank, token_found}
 use Rattle.og_csubset.proofs.Lexed.{begins-next}
 use Rattle.og_csubset.proofs.Reading.{read_tokens}
@@ -38,6 +37,7 @@ lex_sound (suc f) bytes ts h = go (λ rest us. lex_sound f rest us) (list_all is
   where
     Later : Type 0
     Later = (rest : List ℕ) (us : List Token) → lex f rest ≡ Some us → Lexes us rest
+
     go : Later → (c : Bool) (o : Option (Token × List ℕ)) → list_all is_space bytes ≡ c → next_token bytes ≡ o
         → lex_step c o (λ rest. lex f rest) ≡ Some ts → Lexes ts bytes
     go later true o e k h = subst (λ l. Lexes l bytes) (Some-same [] ts h) (bytes, refl, e)
@@ -47,17 +47,18 @@ lex_sound (suc f) bytes ts h = go (λ rest us. lex_sound f rest us) (list_all is
         let rest = later p.1 others.0 others.1 in
         subst (λ l. Lexes l bytes) others.2 (rest.0, (p.1, begins-next bytes p.0 p.1 k, rest.1), rest.2)
 
-some_byte : (t : Token) → IsToken t → 0 < length (spelling t)
+pub some_byte : (t : Token) → IsToken t → 0 < length (spelling t)
 unfolding first_token
 some_byte t is = go (spelling t) refl
   where
     found : first_token (spelling t ++ []) ≡ Some (t, [])
     found = token_found t [] is tt
+
     go : (w : List ℕ) → spelling t ≡ w → 0 < length (spelling t)
     go [] e = nothing (t, []) (sym (ap (λ l. first_token (l ++ [])) e) ∙ found)
     go (b ∷ bs) e = omega (arith, ap (λ l. length l) e)
 
-begins_shrinks : (bytes : List ℕ) (t : Token) (rest : List ℕ) → Begins bytes t rest → length rest < length bytes
+pub begins_shrinks : (bytes : List ℕ) (t : Token) (rest : List ℕ) → Begins bytes t rest → length rest < length bytes
 begins_shrinks bytes t rest h =
     let e : length bytes ≡ length (h.space ++ (spelling t ++ rest)) = ap (λ l. length l) h.joined in
     omega (arith, e, length-append h.space (spelling t ++ rest), length-append (spelling t) rest, some_byte t h.is_token)
@@ -73,6 +74,7 @@ lex_complete (suc f) (t ∷ ts) bytes h fits =
   where
     first : next_token bytes ≡ Some (t, h.1.0)
     first = next-begins bytes t h.1.0 h.1.1
+
     go : (c : Bool) → list_all is_space bytes ≡ c → lex f h.1.0 ≡ Some ts → lex_step c (next_token bytes) (λ rest. lex f rest) ≡ Some (t ∷ ts)
     go true e later = nothing (t, h.1.0) (sym (next-blank bytes e) ∙ first)
     go false e later = rw (first, later)
@@ -83,7 +85,7 @@ behind [] bs = Some bs
 behind (p ∷ ps) [] = None
 behind (p ∷ ps) (b ∷ bs) = cond (p == b) (behind ps bs) None
 
-behind_sound : (ps bs rest : List ℕ) → behind ps bs ≡ Some rest → bs ≡ ps ++ rest
+pub behind_sound : (ps bs rest : List ℕ) → behind ps bs ≡ Some rest → bs ≡ ps ++ rest
 unfolding behind
 behind_sound [] bs rest h = Some-same bs rest h
 behind_sound (p ∷ ps) [] rest h = nothing rest h
@@ -93,7 +95,7 @@ behind_sound (p ∷ ps) (b ∷ bs) rest h = go (p == b) refl (behind_sound ps bs
     go true e later h = ap₂ (λ x xs. x ∷ xs) (sym (eqb-true p b e)) (later h)
     go false e later h = nothing rest h
 
-behind_complete : (ps rest : List ℕ) → behind ps (ps ++ rest) ≡ Some rest
+pub behind_complete : (ps rest : List ℕ) → behind ps (ps ++ rest) ≡ Some rest
 unfolding behind
 behind_complete [] rest = refl
 behind_complete (p ∷ ps) rest = rw (eq-eqb p p refl, behind_complete ps rest)

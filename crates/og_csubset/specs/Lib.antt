@@ -15,4 +15,6 @@ pub mod FlatExamples
 pub mod Texts
 pub mod Plain
 pub mod Extension
+pub mod Wrong
 pub mod Forms
+pub mod Refusals

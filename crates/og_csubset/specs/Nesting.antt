@@ -4,7 +4,7 @@
 -- besides. `?` and `:` count nothing. The selectors of an assignment's target end at `=`, a constant at the `:` of its case,
 -- and everything of a statement or declaration at `;`. The `[` of an array's size, inside a struct, is a bracket alone. (C99
 -- 5.2.4.1 asks a compiler for 63 nested brackets of an expression.)
-use Rattle.std.specs.Prelude.{◌≡◌, ℕ, ◌+◌, ◌<◌, ◌≤◌, max, Bool, true, false, cond, nat_lt, List, [], ◌∷◌, ◌++◌, IsTrue, Option, Some, None, option_map}
+use Rattle.std.specs.Prelude.{◌≡◌, ℕ, ◌+◌, ◌<◌, ◌≤◌, max, Bool, true, false, cond, nat_lt, List, [], ◌∷◌, ◌++◌, Option, Some, None, option_map}
 use Rattle.og_csubset.specs.Tokens.{Token, name, number, operator, relation, keyword, mark, Keyword, struct_, Mark, open_brace, close_brace, open_square, close_square, open_round, close_round, semicolon, colon, question, dot, equals, spelling, Begins, Cuts, HasTokens, first_line}
 
 -- an open bracket, or the outside of all brackets: whether it is `{` or the outside, the nesting right behind it, and now

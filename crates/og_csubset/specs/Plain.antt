@@ -3,7 +3,7 @@
 -- behind a sign), and round a literal behind a sign that is an operation. -2^63 has its brackets by its special spelling.
 -- Where the sum of -9223372036854775807 less 1 stands in a bracket, its left operand is bracketed, since the bracket would
 -- be -2^63 otherwise. Each word here gives the tokens of a tree before the tokens that come behind it.
-use Rattle.std.specs.Prelude.{◌≡◌, ℕ, suc, ◌+◌, ◌-◌, ◌^◌, ◌<◌, ◌≤◌, ℤ, pos, negsuc, Bool, true, false, cond, ◌&&◌, ◌==◌, nat_le, List, [], ◌∷◌, IsTrue, ⊤, Option, Some, None}
+use Rattle.std.specs.Prelude.{ℕ, suc, ◌-◌, ◌^◌, ◌<◌, ◌≤◌, ℤ, pos, negsuc, Bool, false, cond, ◌&&◌, ◌==◌, nat_le, List, [], ◌∷◌, ◌++◌, ⊤, Option, Some, None}
 use Rattle.og_names.specs.declared.Word.{Word}
 use Rattle.og_csubset.specs.declared.CProgram.{CProgram}
 use Rattle.og_csubset.specs.declared.CStruct.{CStruct}
@@ -16,13 +16,13 @@ use Rattle.og_csubset.specs.declared.CStmt.{CStmt}
 use Rattle.og_csubset.specs.declared.CStmt.TheVariants.{Assign, IfGoto, Goto, Label, Switch, Call, Return}
 use Rattle.og_csubset.specs.declared.CCase.{CCase}
 use Rattle.og_csubset.specs.declared.CPlace.{CPlace, CPlace-F, fold-CPlace}
-use Rattle.og_csubset.specs.declared.CStep.{CStep, CStep-F}
+use Rattle.og_csubset.specs.declared.CStep.{CStep-F}
 use Rattle.og_csubset.specs.declared.CExpr.{CExpr, CExpr-F, fold-CExpr}
 use Rattle.og_csubset.specs.declared.CExpr.TheOpen.{Number, Read, Minus, Op, Pick, Member, At}
 use Rattle.og_csubset.specs.declared.CTest.{CTest, CTest-F, fold-CTest}
 use Rattle.og_csubset.specs.declared.COp.{COp}
-use Rattle.og_csubset.specs.declared.COp.TheVariants.{Add, Sub, Mul, Div, Rem}
-use Rattle.og_csubset.specs.Tokens.{Token, name, number, operator, relation, keyword, mark, typedef_, struct_, void_, if_, goto_, switch_, case_, default_, return_, int64_t, INT64_C, open_brace, close_brace, open_square, close_square, open_round, close_round, semicolon, colon, question, dot, equals, IsToken}
+use Rattle.og_csubset.specs.declared.COp.TheVariants.{Sub}
+use Rattle.og_csubset.specs.Tokens.{Token, name, number, operator, relation, keyword, mark, typedef_, struct_, void_, if_, goto_, switch_, case_, default_, return_, int64_t, open_brace, close_brace, open_square, close_square, open_round, close_round, semicolon, colon, question, dot, equals, IsToken, spelling, first_line}
 use Rattle.og_csubset.specs.Spelling.{literal, least_text, is_sum}
 
 -- tokens before others
@@ -50,7 +50,7 @@ shown level p rest = cond (nat_le p.level level) (p.bare rest) (bracketed p rest
 abbrev pub number_piece : ℤ → Piece
 number_piece (pos n) = piece 1 (literal n) (Some (pos n))
 number_piece (negsuc n) =
-    cond (n == 2 ^ 63 - 1) (piece 0 least_text None) (piece 1 (λ rest. operator Sub ∷ literal (n + 1) rest) (Some (negsuc n)))
+    cond (n == 2 ^ 63 - 1) (piece 0 least_text None) (piece 1 (λ rest. operator Sub ∷ literal (suc n) rest) (Some (negsuc n)))
 
 abbrev pub is_value : ℤ → Option ℤ → Bool
 is_value z None = false
@@ -78,7 +78,7 @@ abbrev pub op_piece : COp → Piece → Piece → Piece
 op_piece op p q = record {
   level = op_level op;
   bare = operation (op_level op) op p q;
-  inside = cond (is_least_sum op p q) (λ rest. bracketed p (operator op ∷ q.bare rest)) (operation (op_level op) op p q);
+  inside = cond (is_least_sum op p q) (λ rest. bracketed p (operator op ∷ shown 2 q rest)) (operation (op_level op) op p q);
   value = None;
 }
 
@@ -174,6 +174,15 @@ plain_function f rest = plain_head f.name (mark open_brace ∷ each plain_statem
 abbrev pub plain_tokens : CProgram → List Token
 plain_tokens P =
     each plain_struct P.structs (each plain_global P.globals (each plain_event P.events (each plain_function P.functions [])))
+
+-- tokens with a space behind each
+abbrev pub spaced : List Token → List ℕ
+spaced [] = []
+spaced (token ∷ tokens) = spelling token ++ 32 ∷ spaced tokens
+
+-- a text of the program; how its white space lies does not matter
+abbrev pub plain_text : CProgram → List ℕ
+plain_text P = first_line ++ spaced (plain_tokens P)
 
 -- each size lies in 1 .. 65536, and each struct has a member
 abbrev pub IsSize : Option ℕ → Type 0

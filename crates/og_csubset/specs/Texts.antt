@@ -1,22 +1,16 @@
 -- Texts of the C subset, with the programs that they spell.
-use Rattle.std.specs.Prelude.{ℕ, zero, suc, ◌+◌, ℤ, pos, negsuc, List, [], ◌∷◌, ◌++◌, codes, Option, Some, None}
+use Rattle.std.specs.Prelude.{ℕ, zero, suc, pos, negsuc, List, [], ◌∷◌, ◌++◌, codes, Some}
 use Rattle.og_csubset.specs.declared.CProgram.{CProgram}
-use Rattle.og_csubset.specs.declared.CStruct.{CStruct}
-use Rattle.og_csubset.specs.declared.CMember.{CMember}
 use Rattle.og_csubset.specs.declared.CGlobal.{CGlobal}
-use Rattle.og_csubset.specs.declared.CType.{CType}
 use Rattle.og_csubset.specs.declared.CType.TheVariants.{Int64, Struct}
-use Rattle.og_csubset.specs.declared.CFunction.{CFunction}
 use Rattle.og_csubset.specs.declared.CStmt.{CStmt}
 use Rattle.og_csubset.specs.declared.CStmt.TheVariants.{Assign, IfGoto, Goto, Label, Switch, Call, Return}
-use Rattle.og_csubset.specs.declared.CCase.{CCase}
 use Rattle.og_csubset.specs.declared.CPlace.{CPlace}
-use Rattle.og_csubset.specs.declared.CStep.{CStep, Member, At}
+use Rattle.og_csubset.specs.declared.CStep.{Member, At}
 use Rattle.og_csubset.specs.declared.CExpr.{CExpr, Number, Read, Minus, Op, Pick}
-use Rattle.og_csubset.specs.declared.CTest.{CTest}
-use Rattle.og_csubset.specs.declared.COp.TheVariants.{Add, Sub, Mul, Div, Rem}
-use Rattle.og_csubset.specs.declared.CRel.TheVariants.{Eq, Ne, Lt, Le, Gt, Ge}
-use Rattle.og_csubset.specs.Spelling.{word, least}
+use Rattle.og_csubset.specs.declared.COp.TheVariants.{Add}
+use Rattle.og_csubset.specs.declared.CRel.TheVariants.{Eq, Lt}
+use Rattle.og_csubset.specs.Spelling.{word, least, CSpells}
 
 -- lines with their ends
 abbrev pub lines : List (List ℕ) → List ℕ
@@ -43,6 +37,18 @@ assigning e = doing (Assign (variable (codes "x")) e ∷ [])
 abbrev pub number_of : List ℕ → CExpr
 number_of v = Read (variable v)
 
+-- no program has this text
+abbrev pub SpeltByNone : List ℕ → Type 0
+SpeltByNone text = (P : CProgram) → CSpells P text → ⊥
+
+-- the statement, alone in its function, assigns this to `x`
+abbrev pub Assigns : CExpr → List ℕ → Type 0
+Assigns e statement = CSpells (assigning e) (statements_text statement)
+
+-- `x = a + INT64_C(1);` with much white space
+abbrev pub spaced_statement : List ℕ
+spaced_statement = codes "  x" ++ 9 ∷ codes "=" ++ 13 ∷ 10 ∷ codes " a + INT64_C ( 1 ) ;" ++ 10 ∷ []
+
 -- this many brackets round it
 abbrev pub in_brackets : ℕ → List ℕ → List ℕ
 in_brackets zero text = text
@@ -65,12 +71,18 @@ counting = record {
       ∷ number_global (codes "f_line") ∷ number_global (codes "f_column") ∷ number_global (codes "k")
       ∷ record { kind = Struct (word (codes "A")); name = word (codes "w") } ∷ [];
   events = word (codes "o_done") ∷ [];
-  functions = record { name = word (codes "start"); body = Assign (variable (codes "r")) (Number (pos 0))
-          ∷ Assign (variable (codes "k")) (Number (pos 0)) ∷ [] }
-      ∷ record { name = word (codes "on_go"); body =
-          Assign (record { name = word (codes "w"); path = Member (word (codes "e")) ∷ At (Read (variable (codes "k"))) ∷ [] }) (Number (pos 1))
-          ∷ Assign (variable (codes "k")) (Op Add (Read (variable (codes "k"))) (Number (pos 1)))
-          ∷ Call (word (codes "o_done")) ∷ Call (word (codes "o_done")) ∷ [] } ∷ [];
+  functions = record {
+    name = word (codes "start");
+    body = Assign (variable (codes "r")) (Number (pos 0))
+        ∷ Assign (variable (codes "k")) (Number (pos 0)) ∷ [];
+  }
+      ∷ record {
+        name = word (codes "on_go");
+        body =
+            Assign (record { name = word (codes "w"); path = Member (word (codes "e")) ∷ At (Read (variable (codes "k"))) ∷ [] }) (Number (pos 1))
+            ∷ Assign (variable (codes "k")) (Op Add (Read (variable (codes "k"))) (Number (pos 1)))
+            ∷ Call (word (codes "o_done")) ∷ Call (word (codes "o_done")) ∷ [];
+      } ∷ [];
 }
 
 -- every form of statement
@@ -93,11 +105,11 @@ abbrev pub forms : CProgram
 forms = doing (Label (word (codes "l"))
     ∷ IfGoto (record { op = Lt; left = number_of (codes "a"); right = number_of (codes "b") }) (word (codes "l"))
     ∷ Switch (number_of (codes "a"))
-        (record { value = pos 1; label = word (codes "l") } ∷ record { value = negsuc 1; label = word (codes "m") }
-            ∷ record { value = least; label = word (codes "l") } ∷ [])
-        (word (codes "m"))
+    (record { value = pos 1; label = word (codes "l") } ∷ record { value = negsuc 1; label = word (codes "m") }
+    ∷ record { value = least; label = word (codes "l") } ∷ [])
+    (word (codes "m"))
     ∷ Assign (variable (codes "x"))
-        (Pick (record { op = Eq; left = number_of (codes "a"); right = number_of (codes "b") }) (number_of (codes "a")) (Minus (number_of (codes "b"))))
+    (Pick (record { op = Eq; left = number_of (codes "a"); right = number_of (codes "b") }) (number_of (codes "a")) (Minus (number_of (codes "b"))))
     ∷ Label (word (codes "m"))
     ∷ Call (word (codes "g"))
     ∷ Goto (word (codes "l"))

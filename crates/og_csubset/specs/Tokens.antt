@@ -3,7 +3,7 @@
 -- is taken: behind a word no letter, digit or `_` stands, behind a number no digit, behind `<` no `=`. Only what some
 -- program has is a token here. So a word of C99 that is no name and that no program has, a number with a leading zero or
 -- past 2^63 - 1, `++`, `--` and a byte that begins no token cut nowhere: at such a place the text goes wrong.
-use Rattle.std.specs.Prelude.{◌≡◌, ℕ, ◌+◌, ◌^◌, ◌<◌, Bool, true, false, not, ◌&&◌, ◌||◌, List, [], ◌∷◌, ◌++◌, IsTrue, IsFalse, ⊤, ◌==◌, nat_le, codes, bytes_eq, decimal}
+use Rattle.std.specs.Prelude.{◌≡◌, ℕ, ◌^◌, ◌<◌, Bool, false, not, ◌&&◌, ◌||◌, List, [], ◌∷◌, ◌++◌, IsTrue, IsFalse, ⊤, ◌==◌, nat_le, codes, bytes_eq, decimal}
 use Rattle.std.specs.List.{list_all, list_any}
 use Rattle.og_csubset.specs.declared.COp.{COp}
 use Rattle.og_csubset.specs.declared.COp.TheVariants.{Add, Sub, Mul, Div, Rem}

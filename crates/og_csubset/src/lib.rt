@@ -1,6 +1,7 @@
 //! Programs of the C subset as trees.
 #![tactic(auto)]
 
+mod copy;
 mod flat_examples;
 mod run_examples;
 mod run_laws;
@@ -18,7 +19,7 @@ pub use run_laws::{
 };
 pub use spelling_laws::{
     brackets, least_number, nesting_counts, one_deep_place, one_list_of_tokens, one_program,
-    refused, signs, white_space, whole_text,
+    one_wrong_place, plain_text_of_each, refused, signs, white_space, whole_text,
 };
 use sqlite_items::{Boxed, Items};
 

@@ -1,22 +1,17 @@
 -- Whole texts: a text is cut into pieces in one way at most, and what the pieces give stands in its place.
-use Rattle.std.proofs.Common.{◌≡◌, ◌≢◌, ℕ, ◌+◌, ◌-◌, ◌<◌, ◌≤◌, Bool, true, false, List, [], ◌∷◌, ◌++◌, length, take, drop, refl, sym, ap, ◌∙◌, subst, inl, inr, arith, append_assoc, append-nil, length-append, take_at, drop_at, take-append-drop, drop-drop}
-use Rattle.std.specs.Prelude.{Option, Some, None, Result, Ok, Err, IfSome, slice_range}
-use Rattle.std.proofs.lemmas.List.{take-append-le}
-use Rattle.og_base.specs.declared.Place.{Place}
+use Rattle.std.proofs.Common.{◌≡◌, ◌≢◌, ℕ, ◌-◌, List, [], ◌∷◌, ◌++◌, length, take, drop, refl, sym, ap, ◌∙◌, subst, inl, inr, take_at, drop_at}
+use Rattle.std.specs.Prelude.{Result, Ok, Err}
 use Rattle.og_base.specs.declared.Rule.{Rule}
 use Rattle.og_base.specs.declared.Rule.TheVariants.{L1, L2, L3, L4}
 use Rattle.og_base.specs.declared.Violation.{Violation}
-use Rattle.og_lexer.specs.declared.Token.{Token}
-use Rattle.og_lexer.specs.declared.Token.TheVariants as token
 use Rattle.og_lexer.specs.declared.Spanned.{Spanned}
 use Rattle.og_lexer.specs.declared.Comment.{Comment}
 use Rattle.og_lexer.specs.declared.front.Shape.{Shape}
-use Rattle.og_lexer.specs.declared.front.Shape.TheVariants.{Space, BlockComment, DashComment, LineComment, Name, Reserved, Digits, Quoted, Sign}
 use Rattle.og_lexer.specs.declared.front.Front.{Front}
-use Rattle.og_lexer.specs.Pieces.{IsWord, IsNumber, IsOf, IsComment, goes_on, NotFirst, Stands, IsWithin, Breaks}
-use Rattle.og_lexer.specs.Places.{first_place, next_place, place_after, place_at}
+use Rattle.og_lexer.specs.Pieces.{IsWord, IsNumber, Stands, IsWithin, Breaks}
+use Rattle.og_lexer.specs.Places.{place_at}
 use Rattle.og_lexer.specs.Front.{found, front_of}
-use Rattle.og_lexer.specs.Texts.{Piece, Cuts, inside_quotes, token_of, spanned, comment_of, tokens_from, comments_from, Lexes, FirstLexical, IsWritten, IsInPlace, AreInPlace, EndsOnce, IsCommentInPlace, AreCommentsInPlace}
+use Rattle.og_lexer.specs.Texts.{Piece, Cuts, tokens_from, comments_from, Lexes, FirstLexical}
 use Rattle.og_lexer.proofs.Fronts.{front_of-stands, front_of-breaks}
 
 -- one piece more

@@ -1,6 +1,6 @@
 -- The piece that the reader finds in front of a text, against the definitions by cases: what it finds stands there
 -- (`front_of-is`), what stands there it finds (`front_of-stands`), and what is violated there it says (`front_of-breaks`).
-use Rattle.std.proofs.Common.{◌≡◌, ℕ, ◌+◌, ◌^◌, ◌<◌, ◌≤◌, Bool, true, false, ◌&&◌, ◌||◌, not, cond, List, [], ◌∷◌, ◌++◌, length, take, drop, map, refl, sym, ap, ◌∙◌, subst, inl, inr, ◌⊎◌, arith, append_assoc, append-nil, length-append, take_at}
+use Rattle.std.proofs.Common.{◌≡◌, ℕ, ◌+◌, ◌^◌, ◌<◌, ◌≤◌, Bool, true, false, ◌&&◌, ◌||◌, not, cond, List, [], ◌∷◌, ◌++◌, length, take, map, refl, sym, ap, ◌∙◌, subst, inl, inr, ◌⊎◌, arith, append_assoc, append-nil, length-append, take_at}
 use Rattle.std.specs.Prelude.{if◌then◌else◌, ◌==◌, nat_lt, nat_le, Option, Some, None, Result, Ok, Err}
 use Rattle.std.specs.List.{list_all, prefix_len}
 use Rattle.std.specs.Char.{to_ascii_uppercase}
@@ -19,10 +19,9 @@ use Rattle.og_lexer.specs.declared.front.Front.{Front}
 use Rattle.og_lexer.specs.declared.scan.PairEnd.{PairEnd}
 use Rattle.og_lexer.specs.declared.scan.PairEnd.TheVariants.{Closed, Open}
 use Rattle.og_lexer.specs.Bytes.{class_of, sign_class, is_digit_class, is_word, is_digit, number_of, mark_text, sign_goes_on}
-use Rattle.og_lexer.specs.Keywords.{IsSpelt}
-use Rattle.og_lexer.specs.Pieces.{begins, lacks_pair, in_one_line, quotes_pair, IsWord, IsNumber, IsOf, goes_on, NotFirst, Stands, IsWithin, IsOpenComment, IsOpenText, Breaks}
-use Rattle.og_lexer.specs.Front.{plus, pair_end, quote_end, keyword_in, word_shape, found, word_found, number_found, text_found, block_found, dash_found, pair_found, sign_found, class_found, front_of}
-use Rattle.og_lexer.proofs.Ends.{prefix_len-at, IsRun, run_of, in_line-free, pair_end-closed, pair_end-open, IsClosed, IsOpen, PairEndIs, pair_end-is, quote_end-closed, quote_end-open, IsEnded, QuoteEndIs, quote_end-is}
+use Rattle.og_lexer.specs.Pieces.{begins, lacks_pair, in_one_line, quotes_pair, IsWord, IsNumber, IsOf, goes_on, NotFirst, Stands, IsWithin, Breaks}
+use Rattle.og_lexer.specs.Front.{plus, pair_end, quote_end, keyword_in, word_shape, found, word_found, number_found, text_found, block_found, dash_found, sign_found, class_found, front_of}
+use Rattle.og_lexer.proofs.Ends.{prefix_len-at, run_of, in_line-free, pair_end-closed, pair_end-open, PairEndIs, pair_end-is, quote_end-closed, quote_end-open, QuoteEndIs, quote_end-is}
 use Rattle.og_lexer.proofs.Reserved.{keyword_in-found, keyword-spelt, keyword-none, keyword-absent}
 
 -- a piece of this form and length stands in front of the bytes

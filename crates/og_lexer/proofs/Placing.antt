@@ -1,5 +1,5 @@
 -- What the pieces of a text give: places are those of the bytes, tokens and comments stand at their bytes and in order.
-use Rattle.std.proofs.Common.{◌≡◌, ◌≢◌, ℕ, ◌+◌, ◌-◌, ◌<◌, ◌≤◌, Bool, true, false, cond, List, [], ◌∷◌, ◌++◌, length, take, drop, refl, sym, ap, ◌∙◌, subst, inl, inr, ◌⊎◌, arith, append_assoc, append-nil, length-append, length-drop, take_at, drop_at, take-append-drop, drop-drop, zero-add, add-zero}
+use Rattle.std.proofs.Common.{◌≡◌, ◌≢◌, ℕ, ◌+◌, ◌-◌, ◌≤◌, Bool, true, false, cond, List, [], ◌∷◌, ◌++◌, length, take, drop, refl, sym, ap, ◌∙◌, subst, inl, inr, ◌⊎◌, arith, append_assoc, length-append, length-drop, take_at, drop_at, drop-drop}
 use Rattle.std.specs.Prelude.{◌==◌, Option, Some, None, IfSome, slice_range}
 use Rattle.std.proofs.lemmas.List.{take-append-le}
 use Rattle.std.proofs.Math.Seq.{take-add}
@@ -10,9 +10,9 @@ use Rattle.og_lexer.specs.declared.Spanned.{Spanned}
 use Rattle.og_lexer.specs.declared.Comment.{Comment}
 use Rattle.og_lexer.specs.declared.front.Shape.{Shape}
 use Rattle.og_lexer.specs.declared.front.Shape.TheVariants.{Space, BlockComment, DashComment, LineComment, Name, Reserved, Digits, Quoted, Sign}
-use Rattle.og_lexer.specs.Pieces.{quotes_pair, IsOf, IsComment, goes_on, NotFirst, Stands, IsWithin}
+use Rattle.og_lexer.specs.Pieces.{quotes_pair, IsOf, IsComment, goes_on, NotFirst, IsWithin}
 use Rattle.og_lexer.specs.Places.{first_place, next_place, place_after, place_at}
-use Rattle.og_lexer.specs.Texts.{Piece, Cuts, inside_quotes, token_of, spanned, comment_of, tokens_from, comments_from, Lexes, IsWritten, IsInPlace, AreInPlace, EndsOnce, IsCommentInPlace, AreCommentsInPlace}
+use Rattle.og_lexer.specs.Texts.{Piece, Cuts, inside_quotes, token_of, spanned, comment_of, tokens_from, comments_from, Lexes, IsWritten, AreInPlace, EndsOnce, AreCommentsInPlace}
 
 -- places
 pub place_after-append : (p : Place) (xs ys : List ℕ) → place_after p (xs ++ ys) ≡ place_after (place_after p xs) ys

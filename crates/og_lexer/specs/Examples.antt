@@ -1,5 +1,5 @@
 -- Worked examples of the definitions (Z.101 clause 6.1).
-use Rattle.std.specs.Prelude.{◌≡◌, ℕ, ◌^◌, List, [], ◌∷◌, Ok, Err, Result, codes}
+use Rattle.std.specs.Prelude.{◌≡◌, ℕ, ◌^◌, List, [], ◌∷◌, Err, codes}
 use Rattle.og_base.specs.declared.Place.{Place}
 use Rattle.og_base.specs.declared.Rule.TheVariants.{L1, L2, L4}
 use Rattle.og_lexer.specs.declared.Keyword.TheVariants.{Nextstate}

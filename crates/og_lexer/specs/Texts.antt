@@ -1,7 +1,7 @@
 -- What a text of SDL/PR lexes to (Z.101 clause 6.1). The text is cut into pieces, each the longest that stands in its place
 -- and none past a limit; each token and comment carries the place and the numbers of its bytes, and behind them stands the
 -- token End. A text that has no such cut has a first violation of class L: all before it is cut into pieces.
-use Rattle.std.specs.Prelude.{◌≡◌, ◌≢◌, ◌⊎◌, ℕ, ◌+◌, ◌-◌, ◌^◌, ◌<◌, ◌≤◌, IsTrue, List, [], ◌∷◌, ◌++◌, length, take, drop, map, Option, Some, None, slice_range}
+use Rattle.std.specs.Prelude.{◌≡◌, ◌≢◌, ℕ, ◌+◌, ◌-◌, ◌^◌, ◌≤◌, IsTrue, List, [], ◌∷◌, ◌++◌, length, map, Option, Some, None, slice_range}
 use Rattle.og_base.specs.declared.Place.{Place}
 use Rattle.og_base.specs.declared.Violation.{Violation}
 use Rattle.og_base.specs.declared.ModelError.{ModelError}
@@ -12,7 +12,7 @@ use Rattle.og_lexer.specs.declared.Spanned.{Spanned}
 use Rattle.og_lexer.specs.declared.Comment.{Comment}
 use Rattle.og_lexer.specs.declared.Lexed.{Lexed}
 use Rattle.og_lexer.specs.declared.front.Shape.{Shape}
-use Rattle.og_lexer.specs.declared.front.Shape.TheVariants.{Space, BlockComment, DashComment, LineComment, Name, Reserved, Digits, Quoted, Sign}
+use Rattle.og_lexer.specs.declared.front.Shape.TheVariants.{BlockComment, DashComment, LineComment, Name, Reserved, Digits, Quoted, Sign}
 use Rattle.og_lexer.specs.declared.Keyword.{Keyword}
 use Rattle.og_lexer.specs.Bytes.{number_of, mark_text}
 use Rattle.og_lexer.specs.Keywords.{IsSpelt}

@@ -1,5 +1,6 @@
 ghost use Rattle.std.specs.Prelude.{◌≡◌, ◌+◌, ◌^◌, ◌<◌, ◌≤◌, length, IfSome};
-ghost use Rattle.og_lexer.specs.Front.{front_of, word_found, number_found, text_found, sign_found, block_found, dash_found, end_len};
+ghost use Rattle.og_lexer.specs.declared.front.Shape.TheVariants.{Sign};
+ghost use Rattle.og_lexer.specs.Front.{found, front_of, word_found, number_found, text_found, sign_found, block_found, dash_found, end_len};
 
 use crate::scan::{PairEnd, digits_len, number_value, pair_end, quote_end, word_len};
 use crate::words::{Class, class_of, keyword_of};
@@ -97,29 +98,23 @@ fn sign_front(mark: Mark, rest: &[u8]) -> Result<Front, Rule>
     ensures { result ≡ sign_found mark rest.now }
 {
     match (mark, rest) {
-        (Mark::Colon, [b'=', ..]) => Ok(Front {
-            shape: Shape::Sign(Mark::Assign),
-            len: 2,
-        }),
-        (Mark::Less, [b'=', ..]) => Ok(Front {
-            shape: Shape::Sign(Mark::LessOrEqual),
-            len: 2,
-        }),
-        (Mark::Greater, [b'=', ..]) => Ok(Front {
-            shape: Shape::Sign(Mark::GreaterOrEqual),
-            len: 2,
-        }),
-        (Mark::Solidus, [b'=', ..]) => Ok(Front {
-            shape: Shape::Sign(Mark::NotEqual),
-            len: 2,
-        }),
+        (Mark::Colon, [b'=', ..]) => sign(Mark::Assign, 2),
+        (Mark::Less, [b'=', ..]) => sign(Mark::LessOrEqual, 2),
+        (Mark::Greater, [b'=', ..]) => sign(Mark::GreaterOrEqual, 2),
+        (Mark::Solidus, [b'=', ..]) => sign(Mark::NotEqual, 2),
         (Mark::Solidus, [b'*', inside @ ..]) => block_front(pair_end(inside, b'*', b'/', false)),
         (Mark::Minus, [b'-', inside @ ..]) => dash_front(pair_end(inside, b'-', b'-', true)),
-        _ => Ok(Front {
-            shape: Shape::Sign(mark),
-            len: 1,
-        }),
+        _ => sign(mark, 1),
     }
+}
+
+fn sign(mark: Mark, len: usize) -> Result<Front, Rule>
+    ensures { result ≡ found (Sign mark) len }
+{
+    Ok(Front {
+        shape: Shape::Sign(mark),
+        len,
+    })
 }
 
 fn block_front(end: PairEnd) -> Result<Front, Rule>

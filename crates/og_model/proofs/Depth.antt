@@ -1,6 +1,6 @@
 -- An expression is worth what one layer says of the worth of its parts, at any depth: the depth by which `eval` and `walk`
 -- recurse changes nothing once it covers the tree.
-use Rattle.std.proofs.Common.{◌≡◌, ℕ, zero, suc, ◌+◌, ◌≤◌, max, cond, List, [], ◌∷◌, Result, Ok, Err, refl, sym, ap, ◌∙◌, subst, le_refl, le_trans, arith}
+use Rattle.std.proofs.Common.{◌≡◌, ℕ, zero, suc, ◌+◌, ◌≤◌, max, cond, List, [], ◌∷◌, Result, Ok, Err, refl, ap, ◌∙◌, le_refl, le_trans, arith}
 use denote.Param.Weighed.{most}
 use Rattle.og_types.specs.declared.Value.{Value}
 use Rattle.og_model.specs.declared.FaultKind.{FaultKind}
@@ -96,11 +96,11 @@ walk_from_same : (worth worth' : Evaluates) (k : ℕ) → Agree k worth worth' �
 walk_from_same worth worth' k h v [] p = refl
 walk_from_same worth worth' k h v (x ∷ xs) p =
     on_value_same _ _
-        (hop_same worth worth' k h v (out-Select x)
-            (inside_of _ _ k (below_select x) (left_most (size-Select x) (most size-Select xs) k p)))
-        (λ hop. on_value_same _ _
-            (walk_from_same worth worth' k h (hop_from v hop) xs (right_most (size-Select x) (most size-Select xs) k p))
-            (λ w. refl))
+    (hop_same worth worth' k h v (out-Select x)
+    (inside_of _ _ k (below_select x) (left_most (size-Select x) (most size-Select xs) k p)))
+    (λ hop. on_value_same _ _
+    (walk_from_same worth worth' k h (hop_from v hop) xs (right_most (size-Select x) (most size-Select xs) k p))
+    (λ w. refl))
 
 pub walk_by_same : (worth worth' : Evaluates) (k : ℕ) → Agree k worth worth' → (b : Frame) (s : Store) (t : Target) → size-Target t ≤ k
     → walk_by worth b s t ≡ walk_by worth' b s t
@@ -112,7 +112,7 @@ eval_each_same : (worth worth' : Evaluates) (k : ℕ) → Agree k worth worth' �
 eval_each_same worth worth' k h [] p = refl
 eval_each_same worth worth' k h (e ∷ es) p =
     on_value_same _ _ (h e (left_most (size-Expr e) (most size-Expr es) k p))
-        (λ v. on_value_same _ _ (eval_each_same worth worth' k h es (right_most (size-Expr e) (most size-Expr es) k p)) (λ vs. refl))
+    (λ v. on_value_same _ _ (eval_each_same worth worth' k h es (right_most (size-Expr e) (most size-Expr es) k p)) (λ vs. refl))
 
 pub eval_node_same : (worth worth' : Evaluates) (k : ℕ) → Agree k worth worth' → (b : Frame) (s : Store) (x : Node-F Node Select Expr Target)
     → inside_node x ≤ k → eval_node worth b s x ≡ eval_node worth' b s x
@@ -125,8 +125,8 @@ eval_node_same worth worth' k h b s (Present t) p = on_value_same _ _ (walk_by_s
 eval_node_same worth worth' k h b s (Unary op e) p = on_value_same _ _ (h e p) (λ x. refl)
 eval_node_same worth worth' k h b s (Binary op l r) p =
     on_value_same _ _ (h l (left_most (size-Expr l) (size-Expr r) k p))
-        (λ x. ap (λ (y : Result Value FaultKind). cond (needs_right op x) (on_value y (λ z. apply op x z)) (Ok x))
-            (h r (right_most (size-Expr l) (size-Expr r) k p)))
+    (λ x. ap (λ (y : Result Value FaultKind). cond (needs_right op x) (on_value y (λ z. apply op x z)) (Ok x))
+    (h r (right_most (size-Expr l) (size-Expr r) k p)))
 eval_node_same worth worth' k h b s (Sequence es) p = on_value_same _ _ (eval_each_same worth worth' k h es p) (λ vs. refl)
 eval_node_same worth worth' k h b s (SeqOf es) p = on_value_same _ _ (eval_each_same worth worth' k h es p) (λ vs. refl)
 eval_node_same worth worth' k h b s (Choice i e) p = on_value_same _ _ (h e p) (λ v. refl)
@@ -144,8 +144,8 @@ within_same zero d' b s e p q = absurd (no_depth e p)
 within_same (suc d) zero b s e p q = absurd (no_depth e q)
 within_same (suc d) (suc d') b s e p q =
     eval_node_same (eval_within d b s) (eval_within d' b s) (inside_node (out-Node e.node))
-        (λ x r. within_same d d' b s x (le_trans r (inside_expr e d p)) (le_trans r (inside_expr e d' q)))
-        b s (out-Node e.node) (le_refl _)
+    (λ x r. within_same d d' b s x (le_trans r (inside_expr e d p)) (le_trans r (inside_expr e d' q)))
+    b s (out-Node e.node) (le_refl _)
 
 one_deeper : (n : ℕ) → n ≤ suc n
 one_deeper n = omega arith
@@ -156,12 +156,12 @@ unfolding eval
 eval_is b s e =
     within_same (size-Expr e) (suc (size-Expr e)) b s e (le_refl _) (one_deeper (size-Expr e))
     ∙ eval_node_same (eval_within (size-Expr e) b s) (eval b s) (size-Expr e)
-        (λ x r. within_same (size-Expr e) (size-Expr x) b s x r (le_refl _))
-        b s (out-Node e.node) (inside_expr e (size-Expr e) (one_deeper (size-Expr e)))
+    (λ x r. within_same (size-Expr e) (size-Expr x) b s x r (le_refl _))
+    b s (out-Node e.node) (inside_expr e (size-Expr e) (one_deeper (size-Expr e)))
 
 -- a target by the worth of its indices
 pub walk_is : (b : Frame) (s : Store) (t : Target) → walk b s t ≡ walk_by (eval b s) b s t
 unfolding walk eval
 walk_is b s t =
     walk_by_same (eval_within (size-Target t) b s) (eval b s) (size-Target t)
-        (λ x r. within_same (size-Target t) (size-Expr x) b s x r (le_refl _)) b s t (le_refl _)
+    (λ x r. within_same (size-Target t) (size-Expr x) b s x r (le_refl _)) b s t (le_refl _)

@@ -68,11 +68,12 @@ branches_same inner inner' k h later [] None p = refl
 branches_same inner inner' k h later [] (Some block) p = ap (followed_by later) (h block (right_most 0 (size-Block block) k p))
 branches_same inner inner' k h later (x ∷ xs) other p =
     ap₂ option_or
-        (ap (followed_by later) (h (out-Branch x).block (branch_within x k (first_within (size-Branch x) (most size-Branch xs) (size_if other) p))))
-        (branches_same inner inner' k h later xs other (rest_within (size-Branch x) (most size-Branch xs) (size_if other) p))
+    (ap (followed_by later) (h (out-Branch x).block (branch_within x k (first_within (size-Branch x) (most size-Branch xs) (size_if other) p))))
+    (branches_same inner inner' k h later xs other (rest_within (size-Branch x) (most size-Branch xs) (size_if other) p))
   where
     first_within : (a b c : ℕ) → max (max a b) c ≤ k → a ≤ k
     first_within a b c q = omega (arith, q)
+
     rest_within : (a b c : ℕ) → max (max a b) c ≤ k → max b c ≤ k
     rest_within a b c q = omega (arith, q)
 
@@ -89,10 +90,10 @@ pub steps_same : (inner inner' : Tails) (k : ℕ) → Agree k inner inner' → (
 steps_same inner inner' k h l [] end p = refl
 steps_same inner inner' k h l (x ∷ xs) end p =
     ap (λ (rest : Option Remainder). cond (is_name l x.label) (Some (record { steps = x ∷ xs; end = end } ∷ [])) rest)
-        (ap₂ option_or
-            (action_same inner inner' k h (record { steps = xs; end = end }) (out-Action x.action)
-                (step_within x k (left_most (size-Step x) (most size-Step xs) k p)))
-            (steps_same inner inner' k h l xs end (right_most (size-Step x) (most size-Step xs) k p)))
+    (ap₂ option_or
+    (action_same inner inner' k h (record { steps = xs; end = end }) (out-Action x.action)
+    (step_within x k (left_most (size-Step x) (most size-Step xs) k p)))
+    (steps_same inner inner' k h l xs end (right_most (size-Step x) (most size-Step xs) k p)))
 
 -- ---- any depth that covers the block
 
@@ -107,8 +108,8 @@ tail_within_same zero d' l b p q = absurd (no_depth b p)
 tail_within_same (suc d) zero l b p q = absurd (no_depth b q)
 tail_within_same (suc d) (suc d') l b p q =
     steps_same (tail_within d l) (tail_within d' l) (most size-Step (out-Block b).steps)
-        (λ x r. tail_within_same d d' l x (le_trans r (inside_block b d p)) (le_trans r (inside_block b d' q)))
-        l (out-Block b).steps (out-Block b).end (le_refl _)
+    (λ x r. tail_within_same d d' l x (le_trans r (inside_block b d p)) (le_trans r (inside_block b d' q)))
+    l (out-Block b).steps (out-Block b).end (le_refl _)
 
 one_deeper : (n : ℕ) → n ≤ suc n
 one_deeper n = omega arith
@@ -118,5 +119,5 @@ unfolding tail_in
 tail_in_is l b =
     tail_within_same (size-Block b) (suc (size-Block b)) l b (le_refl _) (one_deeper (size-Block b))
     ∙ steps_same (tail_within (size-Block b) l) (tail_in l) (size-Block b)
-        (λ x r. tail_within_same (size-Block b) (size-Block x) l x r (le_refl _))
-        l (out-Block b).steps (out-Block b).end (inside_block b (size-Block b) (one_deeper (size-Block b)))
+    (λ x r. tail_within_same (size-Block b) (size-Block x) l x r (le_refl _))
+    l (out-Block b).steps (out-Block b).end (inside_block b (size-Block b) (one_deeper (size-Block b)))

@@ -37,11 +37,9 @@ pub fn stopped_for_good()
 /// The worth of an expression and the end of a target go by their parts, whatever the depth of the tree.
 pub fn worth_is_by_parts()
     ensures { WorthIsByParts }
-{
-}
+{}
 
 /// So does what stands behind a label.
 pub fn tails_are_by_parts()
     ensures { TailsAreByParts }
-{
-}
+{}

@@ -64,9 +64,9 @@ some x = Some x
 some_is : {A : Type 0} (x y : A) → some x ≡ some y → x ≡ y
 some_is x y e = cc
 
-both_exact : {X Y : Type 0} (p : Read X) (q : Read Y) (f : X → List Form) (g : Y → List Form) (P Q : List Spanned → Type 0) → Exact p f P → Exact q g Q
+both_exact : {X Y : Type 0} {p : Read X} {q : Read Y} {f : X → List Form} {g : Y → List Form} {P Q : List Spanned → Type 0} → Exact p f P → Exact q g Q
     → ((y : Y) (tokens rest : List Spanned) → Begins (g y) tokens rest → P tokens) → Exact (both p q) (λ x. f x.0 ++ g x.1) Q
-both_exact {X = X} {Y = Y} p q f g P Q first second apart = record {
+both_exact {X = X} {Y = Y} {p = p} {q = q} {f = f} {g = g} first second apart = record {
   sound = λ tokens rest x e.
       let a = bind_some (p tokens) (λ x. q x.1 >>= λ y. Some ((x.0, y.0), y.1)) (x, rest) e in
       let b = bind_some (q a.0.1) (λ y. Some ((a.0.0, y.0), y.1)) (x, rest) a.2 in
@@ -80,11 +80,15 @@ both_exact {X = X} {Y = Y} p q f g P Q first second apart = record {
       rw (one, two) refl;
 }
 
-made_exact : {X Y : Type 0} (make : X → Y) (p : Read X) (f : X → List Form) (g : Y → List Form) (P : List Spanned → Type 0) → Exact p f P
+-- the same where the first says nothing of what follows
+then_exact : {X Y : Type 0} {p : Read X} {q : Read Y} {f : X → List Form} {g : Y → List Form} {Q : List Spanned → Type 0} → Exact p f Anything → Exact q g Q → Exact (both p q) (λ x. f x.0 ++ g x.1) Q
+then_exact first second = both_exact first second (λ _ _ _ _. tt)
+
+made_exact : {X Y : Type 0} {p : Read X} {f : X → List Form} {g : Y → List Form} {P : List Spanned → Type 0} (make : X → Y) → Exact p f P
     → ((x : X) (tokens rest : List Spanned) → Begins (f x) tokens rest → Begins (g (make x)) tokens rest)
     → ((y : Y) (tokens rest : List Spanned) → Begins (g y) tokens rest → (x : X) × (make x ≡ y) × Begins (f x) tokens rest)
     → Exact (made make p) g P
-made_exact {Y = Y} make p f g P reads keeps comes = record {
+made_exact {Y = Y} {p = p} {g = g} make reads keeps comes = record {
   sound = λ tokens rest y e.
       let a = bind_some (p tokens) (λ x. Some (make x.0, x.1)) (y, rest) e in
       let made_is : (make a.0.0, a.0.1) ≡ (y, rest) = some_is (make a.0.0, a.0.1) (y, rest) a.2 in
@@ -275,9 +279,9 @@ opens_once : (fs : List Form) (first : Token) → opening fs ≡ Some first → 
 opens_once [] first o = absurd cc
 opens_once (f ∷ fs) first o = omega arith
 
-many_exact : {X : Type 0} (s : Symbol) (p : Read X) (f : X → List Form) → Exact p f Anything → ((x : X) → opening (f x) ≡ Some (shown s)) → Exact (many s p) (λ xs. flat_map f xs) (EndsAt s)
+many_exact : {X : Type 0} {p : Read X} {f : X → List Form} (s : Symbol) → Exact p f Anything → ((x : X) → opening (f x) ≡ Some (shown s)) → Exact (many s p) (λ xs. flat_map f xs) (EndsAt s)
 unfolding many
-many_exact {X = X} s p f reads opens =
+many_exact {X = X} {p = p} {f = f} s reads opens =
     let first : (x : X) (tokens rest : List Spanned) → Begins (f x) tokens rest → begins s tokens ≡ true = λ x tokens rest h. begins_by s (f x) (shown s) true tokens rest (opens x) (is_symbol-shown s) h in
     record {
       sound = λ tokens rest xs e. repeated_sound s p f reads (length tokens) tokens rest xs e;
@@ -286,161 +290,123 @@ many_exact {X = X} s p f reads opens =
 
 -- ---- the productions
 
-abbrev closing_forms_of : Keyword → Place → List Form
-closing_forms_of word place = ReservedAt word place ∷ Sign Semicolon ∷ []
+abbrev start_keyword : Keyword → Place → List Form
+start_keyword word place = ReservedAt word place ∷ Sign Semicolon ∷ []
 
-closing_exact : (word : Keyword) → Exact (closing_at word) (closing_forms_of word) Anything
+closing_exact : (word : Keyword) → Exact (closing_at word) (start_keyword word) Anything
 unfolding closing_at
 closing_exact word =
-    made_exact (λ (x : Place × Unit {0}). x.0) (both (symbol_at (symbol.Keyword word)) (passed (symbol.Mark Semicolon))) (λ x. closing_forms_of word x.0) (closing_forms_of word) Anything
-    (both_exact (symbol_at (symbol.Keyword word)) (passed (symbol.Mark Semicolon)) (λ place. ReservedAt word place ∷ []) (λ _. Sign Semicolon ∷ []) Anything Anything (keyword_exact word) (passed_exact (symbol.Mark Semicolon)) (λ _ _ _ _. tt))
+    made_exact (λ (x : Place × Unit {0}). x.0) (then_exact (keyword_exact word) (passed_exact (symbol.Mark Semicolon)))
     (λ x tokens rest h. h) (λ place tokens rest h. ((place, tt), refl, h))
 
 ending_exact : (word : Keyword) → Exact (ending_at word) (λ _. Reserved word ∷ Sign Semicolon ∷ []) Anything
 unfolding ending_at
 ending_exact word =
-    made_exact (λ (x : Place). tt) (closing_at word) (closing_forms_of word) (λ _. Reserved word ∷ Sign Semicolon ∷ []) Anything (closing_exact word)
+    made_exact (λ (x : Place). tt) (closing_exact word)
     (λ x tokens rest h. (h.0, h.1, h.2, h.3.0, h.4)) (λ y tokens rest h. (h.0.place, refl, (h.0, h.1, h.2, (h.3, refl), h.4)))
 
-abbrev heading_forms : Keyword → Place × Ident → List Form
-heading_forms word x = ReservedAt word x.0 ∷ Named x.1 ∷ Sign Semicolon ∷ []
-
-heading_exact : (word : Keyword) → Exact (heading_at word) (heading_forms word) Anything
+heading_exact : (word : Keyword) → Exact (heading_at word) (λ x. ReservedAt word x.0 ∷ Named x.1 ∷ Sign Semicolon ∷ []) Anything
 unfolding heading_at
 heading_exact word =
-    made_exact (λ (x : (Place × Ident) × Unit {0}). x.0) (both (both (symbol_at (symbol.Keyword word)) name_at) (passed (symbol.Mark Semicolon))) (λ x. heading_forms word x.0) (heading_forms word) Anything
-    (both_exact (both (symbol_at (symbol.Keyword word)) name_at) (passed (symbol.Mark Semicolon)) (λ x. ReservedAt word x.0 ∷ Named x.1 ∷ []) (λ _. Sign Semicolon ∷ []) Anything Anything
-    (both_exact (symbol_at (symbol.Keyword word)) name_at (λ place. ReservedAt word place ∷ []) (λ name. Named name ∷ []) Anything Anything (keyword_exact word) name_exact (λ _ _ _ _. tt))
-    (passed_exact (symbol.Mark Semicolon)) (λ _ _ _ _. tt))
+    made_exact (λ (x : (Place × Ident) × Unit {0}). x.0) (then_exact (then_exact (keyword_exact word) name_exact) (passed_exact (symbol.Mark Semicolon)))
     (λ x tokens rest h. h) (λ x tokens rest h. ((x, tt), refl, h))
 
-abbrev title_forms : Keyword → Ident → List Form
-title_forms word name = Reserved word ∷ Named name ∷ Sign Semicolon ∷ []
-
-title_exact : (word : Keyword) → Exact (title_at word) (title_forms word) Anything
+title_exact : (word : Keyword) → Exact (title_at word) (λ name. Reserved word ∷ Named name ∷ Sign Semicolon ∷ []) Anything
 unfolding title_at
 title_exact word =
-    made_exact (λ (x : Place × Ident). x.1) (heading_at word) (heading_forms word) (title_forms word) Anything (heading_exact word)
+    made_exact (λ (x : Place × Ident). x.1) (heading_exact word)
     (λ x tokens rest h. (h.0, h.1, h.2, h.3.0, h.4)) (λ name tokens rest h. ((h.0.place, name), refl, (h.0, h.1, h.2, (h.3, refl), h.4)))
 
 next_exact : Exact next_at next_forms Anything
 unfolding next_at
 next_exact =
-    made_exact (λ (x : Place × Ident). record { place = x.0; state = x.1 }) (heading_at keyword.Nextstate) (heading_forms keyword.Nextstate) next_forms Anything (heading_exact keyword.Nextstate)
+    made_exact (λ (x : Place × Ident). record { place = x.0; state = x.1 }) (heading_exact keyword.Nextstate)
     (λ x tokens rest h. h) (λ next tokens rest h. ((next.place, next.state), refl, h))
 
 outputs_exact : Exact outputs_at (λ outputs. flat_map output_forms outputs) (EndsAt (symbol.Keyword keyword.Output))
 unfolding outputs_at
-outputs_exact = many_exact (symbol.Keyword keyword.Output) (title_at keyword.Output) output_forms (title_exact keyword.Output) (λ x. refl)
+outputs_exact = many_exact (symbol.Keyword keyword.Output) (title_exact keyword.Output) (λ x. refl)
 
 input_exact : Exact input_at input_forms Anything
 unfolding input_at same_keyword
 input_exact =
-    made_exact (λ (x : ((Place × Ident) × List Ident) × NextText). record { place = x.0.0.0; signal = x.0.0.1; outputs = x.0.1; next = x.1 }) (both (both (heading_at keyword.Input) outputs_at) next_at)
-    (λ x. (heading_forms keyword.Input x.0.0 ++ flat_map output_forms x.0.1) ++ next_forms x.1) input_forms Anything
-    (both_exact (both (heading_at keyword.Input) outputs_at) next_at (λ x. heading_forms keyword.Input x.0 ++ flat_map output_forms x.1) next_forms (EndsAt (symbol.Keyword keyword.Output)) Anything
-    (both_exact (heading_at keyword.Input) outputs_at (heading_forms keyword.Input) (λ outputs. flat_map output_forms outputs) Anything (EndsAt (symbol.Keyword keyword.Output)) (heading_exact keyword.Input) outputs_exact (λ _ _ _ _. tt))
-    next_exact
+    made_exact (λ (x : ((Place × Ident) × List Ident) × NextText). record { place = x.0.0.0; signal = x.0.0.1; outputs = x.0.1; next = x.1 })
+    (both_exact (then_exact (heading_exact keyword.Input) outputs_exact) next_exact
     (λ next tokens rest h. begins_by (symbol.Keyword keyword.Output) (next_forms next) (token.Keyword keyword.Nextstate) false tokens rest refl refl h))
     (λ x tokens rest h. h) (λ input tokens rest h. ((((input.place, input.signal), input.outputs), input.next), refl, h))
 
 inputs_exact : Exact inputs_at (λ inputs. flat_map input_forms inputs) (EndsAt (symbol.Keyword keyword.Input))
 unfolding inputs_at
-inputs_exact = many_exact (symbol.Keyword keyword.Input) input_at input_forms input_exact (λ x. refl)
+inputs_exact = many_exact (symbol.Keyword keyword.Input) input_exact (λ x. refl)
 
 state_exact : Exact state_at state_forms Anything
 unfolding state_at same_keyword
 state_exact =
-    made_exact (λ (x : (Ident × List InputText) × Unit {0}). record { name = x.0.0; inputs = x.0.1 }) (both (both (title_at keyword.State) inputs_at) (ending_at keyword.Endstate))
-    (λ x. (title_forms keyword.State x.0.0 ++ flat_map input_forms x.0.1) ++ Reserved keyword.Endstate ∷ Sign Semicolon ∷ []) state_forms Anything
-    (both_exact (both (title_at keyword.State) inputs_at) (ending_at keyword.Endstate) (λ x. title_forms keyword.State x.0 ++ flat_map input_forms x.1) (λ _. Reserved keyword.Endstate ∷ Sign Semicolon ∷ []) (EndsAt (symbol.Keyword keyword.Input)) Anything
-    (both_exact (title_at keyword.State) inputs_at (title_forms keyword.State) (λ inputs. flat_map input_forms inputs) Anything (EndsAt (symbol.Keyword keyword.Input)) (title_exact keyword.State) inputs_exact (λ _ _ _ _. tt))
-    (ending_exact keyword.Endstate)
+    made_exact (λ (x : (Ident × List InputText) × Unit {0}). record { name = x.0.0; inputs = x.0.1 })
+    (both_exact (then_exact (title_exact keyword.State) inputs_exact) (ending_exact keyword.Endstate)
     (λ y tokens rest h. begins_by (symbol.Keyword keyword.Input) (Reserved keyword.Endstate ∷ Sign Semicolon ∷ []) (token.Keyword keyword.Endstate) false tokens rest refl refl h))
     (λ x tokens rest h. h) (λ state tokens rest h. (((state.name, state.inputs), tt), refl, h))
 
 states_exact : Exact states_at (λ states. flat_map state_forms states) (EndsAt (symbol.Keyword keyword.State))
 unfolding states_at
-states_exact = many_exact (symbol.Keyword keyword.State) state_at state_forms state_exact (λ x. refl)
+states_exact = many_exact (symbol.Keyword keyword.State) state_exact (λ x. refl)
 
 further_exact : Exact further_at further_forms Anything
 unfolding further_at
 further_exact =
-    made_exact (λ (x : Unit {0} × Ident). x.1) (both (passed (symbol.Mark Comma)) name_at) (λ x. further_forms x.1) further_forms Anything
-    (both_exact (passed (symbol.Mark Comma)) name_at (λ _. Sign Comma ∷ []) (λ name. Named name ∷ []) Anything Anything (passed_exact (symbol.Mark Comma)) name_exact (λ _ _ _ _. tt))
+    made_exact (λ (x : Unit {0} × Ident). x.1) (then_exact (passed_exact (symbol.Mark Comma)) name_exact)
     (λ x tokens rest h. h) (λ name tokens rest h. ((tt, name), refl, h))
 
 furthers_exact : Exact furthers_at (λ others. flat_map further_forms others) (EndsAt (symbol.Mark Comma))
 unfolding furthers_at
-furthers_exact = many_exact (symbol.Mark Comma) further_at further_forms further_exact (λ x. refl)
+furthers_exact = many_exact (symbol.Mark Comma) further_exact (λ x. refl)
 
 signal_exact : Exact signal_at signal_forms Anything
 unfolding signal_at same_mark
 signal_exact =
-    made_exact (λ (x : ((Unit {0} × Ident) × List Ident) × Unit {0}). record { first = x.0.0.1; others = x.0.1 }) (both (both (both (passed (symbol.Keyword keyword.Signal)) name_at) furthers_at) (passed (symbol.Mark Semicolon)))
-    (λ x. ((Reserved keyword.Signal ∷ Named x.0.0.1 ∷ []) ++ flat_map further_forms x.0.1) ++ Sign Semicolon ∷ []) signal_forms Anything
-    (both_exact (both (both (passed (symbol.Keyword keyword.Signal)) name_at) furthers_at) (passed (symbol.Mark Semicolon)) (λ x. (Reserved keyword.Signal ∷ Named x.0.1 ∷ []) ++ flat_map further_forms x.1) (λ _. Sign Semicolon ∷ []) (EndsAt (symbol.Mark Comma)) Anything
-    (both_exact (both (passed (symbol.Keyword keyword.Signal)) name_at) furthers_at (λ x. Reserved keyword.Signal ∷ Named x.1 ∷ []) (λ others. flat_map further_forms others) Anything (EndsAt (symbol.Mark Comma))
-    (both_exact (passed (symbol.Keyword keyword.Signal)) name_at (λ _. Reserved keyword.Signal ∷ []) (λ name. Named name ∷ []) Anything Anything (passed_exact (symbol.Keyword keyword.Signal)) name_exact (λ _ _ _ _. tt))
-    furthers_exact (λ _ _ _ _. tt))
-    (passed_exact (symbol.Mark Semicolon))
+    made_exact (λ (x : ((Unit {0} × Ident) × List Ident) × Unit {0}). record { first = x.0.0.1; others = x.0.1 })
+    (both_exact (then_exact (then_exact (passed_exact (symbol.Keyword keyword.Signal)) name_exact) furthers_exact) (passed_exact (symbol.Mark Semicolon))
     (λ y tokens rest h. begins_by (symbol.Mark Comma) (Sign Semicolon ∷ []) (token.Mark Semicolon) false tokens rest refl refl h))
     (λ x tokens rest h. h) (λ signal tokens rest h. ((((tt, signal.first), signal.others), tt), refl, h))
 
 signals_exact : Exact signals_at (λ signals. flat_map signal_forms signals) (EndsAt (symbol.Keyword keyword.Signal))
 unfolding signals_at
-signals_exact = many_exact (symbol.Keyword keyword.Signal) signal_at signal_forms signal_exact (λ x. refl)
+signals_exact = many_exact (symbol.Keyword keyword.Signal) signal_exact (λ x. refl)
 
 start_exact : Exact start_at start_forms Anything
 unfolding start_at
 start_exact =
-    made_exact (λ (x : Place × NextText). record { place = x.0; next = x.1 }) (both (closing_at keyword.Start) next_at) (λ x. closing_forms_of keyword.Start x.0 ++ next_forms x.1) start_forms Anything
-    (both_exact (closing_at keyword.Start) next_at (closing_forms_of keyword.Start) next_forms Anything Anything (closing_exact keyword.Start) next_exact (λ _ _ _ _. tt))
+    made_exact (λ (x : Place × NextText). record { place = x.0; next = x.1 }) (then_exact (closing_exact keyword.Start) next_exact)
     (λ x tokens rest h. h) (λ start tokens rest h. ((start.place, start.next), refl, h))
-
-abbrev ending_forms : Keyword → List Form
-ending_forms word = Reserved word ∷ Sign Semicolon ∷ []
 
 closings_exact : Exact closings_at (λ _. closing_forms) Anything
 unfolding closings_at
 closings_exact =
-    made_exact (λ (x : ((Unit {0} × Unit {0}) × Unit {0}) × Unit {0}). tt) (both (both (both (ending_at keyword.Endprocess) (ending_at keyword.Endblock)) (ending_at keyword.Endsystem)) (passed symbol.End)) (λ _. closing_forms) (λ _. closing_forms) Anything
-    (both_exact (both (both (ending_at keyword.Endprocess) (ending_at keyword.Endblock)) (ending_at keyword.Endsystem)) (passed symbol.End) (λ _. (ending_forms keyword.Endprocess ++ ending_forms keyword.Endblock) ++ ending_forms keyword.Endsystem) (λ _. Last ∷ []) Anything Anything
-    (both_exact (both (ending_at keyword.Endprocess) (ending_at keyword.Endblock)) (ending_at keyword.Endsystem) (λ _. ending_forms keyword.Endprocess ++ ending_forms keyword.Endblock) (λ _. ending_forms keyword.Endsystem) Anything Anything
-    (both_exact (ending_at keyword.Endprocess) (ending_at keyword.Endblock) (λ _. ending_forms keyword.Endprocess) (λ _. ending_forms keyword.Endblock) Anything Anything (ending_exact keyword.Endprocess) (ending_exact keyword.Endblock) (λ _ _ _ _. tt))
-    (ending_exact keyword.Endsystem) (λ _ _ _ _. tt))
-    (passed_exact symbol.End) (λ _ _ _ _. tt))
+    made_exact (λ (x : ((Unit {0} × Unit {0}) × Unit {0}) × Unit {0}). tt)
+    (then_exact (then_exact (then_exact (ending_exact keyword.Endprocess) (ending_exact keyword.Endblock)) (ending_exact keyword.Endsystem)) (passed_exact symbol.End))
     (λ x tokens rest h. h) (λ x tokens rest h. ((((tt, tt), tt), tt), refl, h))
 
 abbrev Body : Type 0
 Body = Ident × Ident × StartText × List StateText
 
 abbrev body_forms : Body → List Form
-body_forms x = (title_forms keyword.Block x.0 ++ title_forms keyword.Process x.1) ++ (start_forms x.2 ++ (flat_map state_forms x.3 ++ closing_forms))
+body_forms x = Reserved keyword.Block ∷ Named x.0 ∷ Sign Semicolon ∷ Reserved keyword.Process ∷ Named x.1 ∷ Sign Semicolon ∷ (start_forms x.2 ++ flat_map state_forms x.3 ++ closing_forms)
 
 body_exact : Exact body_at body_forms Anything
 unfolding body_at same_keyword
 body_exact =
-    made_exact (λ (x : (Ident × Ident) × (StartText × (List StateText × Unit {0}))). (x.0.0, x.0.1, x.1.0, x.1.1.0)) (both (both (title_at keyword.Block) (title_at keyword.Process)) (both start_at (both states_at closings_at)))
-    (λ x. body_forms (x.0.0, x.0.1, x.1.0, x.1.1.0)) body_forms Anything
-    (both_exact (both (title_at keyword.Block) (title_at keyword.Process)) (both start_at (both states_at closings_at)) (λ x. title_forms keyword.Block x.0 ++ title_forms keyword.Process x.1) (λ x. start_forms x.0 ++ (flat_map state_forms x.1.0 ++ closing_forms)) Anything Anything
-    (both_exact (title_at keyword.Block) (title_at keyword.Process) (title_forms keyword.Block) (title_forms keyword.Process) Anything Anything (title_exact keyword.Block) (title_exact keyword.Process) (λ _ _ _ _. tt))
-    (both_exact start_at (both states_at closings_at) start_forms (λ x. flat_map state_forms x.0 ++ closing_forms) Anything Anything start_exact
-    (both_exact states_at closings_at (λ states. flat_map state_forms states) (λ _. closing_forms) (EndsAt (symbol.Keyword keyword.State)) Anything states_exact closings_exact
-    (λ y tokens rest h. begins_by (symbol.Keyword keyword.State) closing_forms (token.Keyword keyword.Endprocess) false tokens rest refl refl h))
-    (λ _ _ _ _. tt))
-    (λ _ _ _ _. tt))
+    made_exact (λ (x : (Ident × Ident) × (StartText × (List StateText × Unit {0}))). (x.0.0, x.0.1, x.1.0, x.1.1.0))
+    (then_exact (then_exact (title_exact keyword.Block) (title_exact keyword.Process))
+    (then_exact start_exact (both_exact states_exact closings_exact
+    (λ y tokens rest h. begins_by (symbol.Keyword keyword.State) closing_forms (token.Keyword keyword.Endprocess) false tokens rest refl refl h))))
     (λ x tokens rest h. h) (λ x tokens rest h. (((x.0, x.1), (x.2, (x.3, tt))), refl, h))
 
 system_exact : Exact system_at system_forms Anything
 unfolding system_at same_keyword
 system_exact =
-    made_exact (λ (x : Ident × (List SignalText × Body)). record { system = x.0; signals = x.1.0; block = x.1.1.0; process = x.1.1.1; start = x.1.1.2; states = x.1.1.3 }) (both (title_at keyword.System) (both signals_at body_at))
-    (λ x. title_forms keyword.System x.0 ++ (flat_map signal_forms x.1.0 ++ body_forms x.1.1)) system_forms Anything
-    (both_exact (title_at keyword.System) (both signals_at body_at) (title_forms keyword.System) (λ x. flat_map signal_forms x.0 ++ body_forms x.1) Anything Anything (title_exact keyword.System)
-    (both_exact signals_at body_at (λ signals. flat_map signal_forms signals) body_forms (EndsAt (symbol.Keyword keyword.Signal)) Anything signals_exact body_exact
-    (λ body tokens rest h. begins_by (symbol.Keyword keyword.Signal) (body_forms body) (token.Keyword keyword.Block) false tokens rest refl refl h))
-    (λ _ _ _ _. tt))
+    made_exact (λ (x : Ident × (List SignalText × Body)). record { system = x.0; signals = x.1.0; block = x.1.1.0; process = x.1.1.1; start = x.1.1.2; states = x.1.1.3 })
+    (then_exact (title_exact keyword.System) (both_exact signals_exact body_exact
+    (λ body tokens rest h. begins_by (symbol.Keyword keyword.Signal) (body_forms body) (token.Keyword keyword.Block) false tokens rest refl refl h)))
     (λ x tokens rest h. h) (λ s tokens rest h. ((s.system, (s.signals, (s.block, s.process, s.start, s.states))), refl, h))
 
 -- ---- the whole file

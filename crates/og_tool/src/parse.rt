@@ -1,7 +1,5 @@
 //! The parser: the tokens of a model file as a tree (Z.106, the textual form).
-ghost use Rattle.std.specs.Prelude.{◌≡◌, List, IfOk, IsErrOf};
-ghost use Rattle.og_lexer.specs.declared.Spanned.{Spanned};
-ghost use Rattle.og_lexer.specs.declared.Keyword.TheVariants as keyword;
+ghost use Rattle.std.specs.Prelude.{◌≡◌, IfOk, IsErrOf};
 ghost use Rattle.og_tool.specs.Grammar.{Spells};
 ghost use Rattle.og_tool.specs.Reading.{Gives, is_symbol, begins, symbol_at, name_at, closing_at, heading_at, title_at, next_at, outputs_at, input_at, inputs_at, state_at, states_at, further_at, furthers_at, signal_at, signals_at, start_at, closings_at, body_at, system_at, sentence};
 ghost use Rattle.og_tool.specs.declared.parse.ParseError.TheVariants.{NoMemory};
@@ -49,12 +47,13 @@ pub fn parse_system(alloc: Global, tokens: &[Spanned]) -> Result<SystemText, Par
     ensures found { IfOk result (λ system. Spells system tokens.now) }
     // They are one with no other tree.
     ensures only { IfOk result (λ system. (other : SystemText) → Spells other tokens.now → other ≡ system) }
-    // Only tokens that are no sentence are refused as such.
+    // Tokens that are refused as no sentence are one with no tree.
     ensures none { IsErrOf result ParseError.NoSentence → (system : SystemText) → Spells system tokens.now → ⊥ }
 {
     whole_system(alloc, tokens)
 }
 
+/// The tree of the tokens, of which none are left over.
 #[tactic(auto, using(crate::proofs::Repeats::not_ended), unfolding(crate::specs::Reading::sentence))]
 fn whole_system(alloc: Global, tokens: &[Spanned]) -> Result<SystemText, ParseError>
     ensures { Gives (λ x. x) result (sentence tokens.now) }
@@ -101,6 +100,7 @@ fn body_of(
     Ok(((block, process, start, states), rest))
 }
 
+/// The signals in front, of which there are no more than tokens.
 #[tactic(auto, using(crate::proofs::Repeats::turns), unfolding(crate::specs::Reading::signals_at))]
 fn signals_of(
     alloc: Global,
@@ -133,6 +133,7 @@ fn signal_of(alloc: Global, tokens: &[Spanned]) -> Result<(SignalText, &[Spanned
     Ok((SignalText { first, others }, rest))
 }
 
+/// The names in front that stand behind a comma each.
 #[tactic(auto, using(crate::proofs::Repeats::turns), unfolding(crate::specs::Reading::furthers_at))]
 fn furthers_of(alloc: Global, tokens: &[Spanned]) -> Result<(Items<Ident>, &[Spanned]), ParseError>
     ensures { Gives (λ x. (x.0, x.1.now)) result (furthers_at tokens.now) }
@@ -170,6 +171,7 @@ fn start_of(alloc: Global, tokens: &[Spanned]) -> Result<(StartText, &[Spanned])
     Ok((StartText { place, next }, rest))
 }
 
+/// The states in front.
 #[tactic(auto, using(crate::proofs::Repeats::turns), unfolding(crate::specs::Reading::states_at))]
 fn states_of(
     alloc: Global,
@@ -201,6 +203,7 @@ fn state_of(alloc: Global, tokens: &[Spanned]) -> Result<(StateText, &[Spanned])
     Ok((StateText { name, inputs }, rest))
 }
 
+/// The inputs in front.
 #[tactic(auto, using(crate::proofs::Repeats::turns), unfolding(crate::specs::Reading::inputs_at))]
 fn inputs_of(
     alloc: Global,
@@ -240,6 +243,7 @@ fn input_of(alloc: Global, tokens: &[Spanned]) -> Result<(InputText, &[Spanned])
     ))
 }
 
+/// The outputs in front.
 #[tactic(auto, using(crate::proofs::Repeats::turns), unfolding(crate::specs::Reading::outputs_at))]
 fn outputs_of(alloc: Global, tokens: &[Spanned]) -> Result<(Items<Ident>, &[Spanned]), ParseError>
     ensures { Gives (λ x. (x.0, x.1.now)) result (outputs_at tokens.now) }
@@ -316,6 +320,7 @@ fn closing_of(word: Keyword, tokens: &[Spanned]) -> Result<(Place, &[Spanned]), 
     Ok((place, rest))
 }
 
+/// The name in front, copied out of its token.
 #[tactic(auto, unfolding(crate::specs::Reading::name_at))]
 fn name_of(alloc: Global, tokens: &[Spanned]) -> Result<(Ident, &[Spanned]), ParseError>
     ensures { Gives (λ x. (x.0, x.1.now)) result (name_at tokens.now) }
@@ -365,6 +370,7 @@ fn begins(symbol: Symbol, tokens: &[Spanned]) -> bool
     }
 }
 
+/// Whether the token is this keyword, this mark or the end.
 #[tactic(auto, unfolding(crate::specs::Reading::same_keyword, crate::specs::Reading::same_mark))]
 fn is_symbol(symbol: Symbol, token: &Token) -> bool
     ensures { result ≡ is_symbol symbol token.now }

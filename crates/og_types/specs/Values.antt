@@ -1,8 +1,8 @@
 -- Which values a type has, the first of them, and how many cells a value of it takes. The types are those of a subset of
--- ASN.1 (X.680 sections 19 to 25 and 29). A table holds types by their numbers, and a type refers to smaller numbers
+-- ASN.1 (X.680 sections 18 to 20, 25, 26 and 29). A table holds types by their numbers, and a type refers to smaller numbers
 -- only: so a search that starts at type n goes down at most n + 1 times. The first value of a type and the cells are this
 -- project's own. A value of a sequence is one value for each component in the order of the components.
-use Rattle.std.specs.Prelude.{ℕ, zero, suc, ◌+◌, ◌*◌, min, max, Bool, true, false, ◌&&◌, List, [], ◌∷◌, length, map, replicate, slice_get, ℤ, pos, int_le, nat_lt, nat_le, Option, Some, None}
+use Rattle.std.specs.Prelude.{◌≡◌, ⊤, ◌<◌, ℕ, zero, suc, ◌+◌, ◌*◌, min, max, Bool, true, false, ◌&&◌, List, [], ◌∷◌, length, map, replicate, slice_get, ℤ, pos, int_le, nat_lt, nat_le, Option, Some, None}
 use Rattle.std.specs.List.{list_all}
 use Rattle.og_types.specs.declared.TypeId.{TypeId}
 use Rattle.og_types.specs.declared.Part.{Part}
@@ -103,6 +103,31 @@ cells_within (suc depth) types id = cells_of_sort (cells_within depth types) (sl
 abbrev pub many_cells : ℕ
 many_cells = 65537
 
+-- the cells of the type, however many
+abbrev pub all_cells : List Sort → TypeId → ℕ
+all_cells types id = cells_within (suc id.0) types id
+
 -- the cells of the type, counted up to 65,537
 abbrev pub cells : List Sort → TypeId → ℕ
-cells types id = min (cells_within (suc id.0) types id) many_cells
+cells types id = min (all_cells types id) many_cells
+
+-- ---- tables
+
+-- components of types of smaller numbers
+abbrev pub PartsBelow : ℕ → List Part → Type 0
+PartsBelow n [] = ⊤
+PartsBelow n (p ∷ ps) = (p.sort.0 < n) × PartsBelow n ps
+
+-- the type refers to types of smaller numbers only
+abbrev pub RefersBelow : ℕ → Sort → Type 0
+RefersBelow n (Sorts.Int lo hi) = ⊤
+RefersBelow n Sorts.Bool = ⊤
+RefersBelow n (Sorts.Enumerated names numbers) = ⊤
+RefersBelow n (Sorts.Sequence parts) = PartsBelow n parts
+RefersBelow n (Sorts.Choice parts) = PartsBelow n parts
+RefersBelow n (Sorts.SeqOf lo hi item) = item.0 < n
+RefersBelow n Sorts.Opaque = ⊤
+
+-- and so does each type of the table
+abbrev pub IsDownward : List Sort → Type 0
+IsDownward types = (n : ℕ) (t : Sort) → slice_get types n ≡ Some t → RefersBelow n t

@@ -3,6 +3,9 @@
 
 ghost use Rattle.std.specs.Prelude.{◌≡◌, []};
 
+mod copy;
+pub mod laws;
+
 use og_names::NameId;
 use sqlite_items::{Boxed, Items};
 use std::alloc::Global;

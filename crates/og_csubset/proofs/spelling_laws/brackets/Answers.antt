@@ -1,4 +1,4 @@
-use Rattle.og_csubset.proofs.Examples.{brackets_left, brackets_right, brackets_products, brackets_product_first, brackets_beyond_need}
+use Rattle.og_csubset.proofs.TextExamples.{brackets_left, brackets_right, brackets_products, brackets_product_first, brackets_beyond_need}
 use Rattle.og_csubset.proofs.spelling_laws.brackets.Goals as goal
 
 pub returns-clause-left : goal.returns-clause-left

@@ -1,4 +1,4 @@
-use Rattle.og_csubset.proofs.Examples.{least_number_special, least_number_bracketed_again, least_number_negated, least_number_no_bracket, least_number_left_bracket, least_number_more_behind}
+use Rattle.og_csubset.proofs.TextExamples.{least_number_special, least_number_bracketed_again, least_number_negated, least_number_no_bracket, least_number_left_bracket, least_number_more_behind}
 use Rattle.og_csubset.proofs.spelling_laws.least_number.Goals as goal
 
 pub returns-clause-special : goal.returns-clause-special

@@ -1,4 +1,4 @@
-use Rattle.og_csubset.proofs.Examples.{nesting_counts_assignment, nesting_counts_operators, nesting_counts_literal, nesting_counts_target, nesting_counts_both_sides, nesting_counts_selectors_stay, nesting_counts_bracket_ends, nesting_counts_test, nesting_counts_choice, nesting_counts_constants, nesting_counts_whole_text, nesting_counts_at_the_limit, nesting_counts_past_the_limit}
+use Rattle.og_csubset.proofs.TextExamples.{nesting_counts_assignment, nesting_counts_operators, nesting_counts_literal, nesting_counts_target, nesting_counts_both_sides, nesting_counts_selectors_stay, nesting_counts_bracket_ends, nesting_counts_test, nesting_counts_choice, nesting_counts_constants, nesting_counts_whole_text, nesting_counts_at_the_limit, nesting_counts_past_the_limit}
 use Rattle.og_csubset.proofs.spelling_laws.nesting_counts.Goals as goal
 
 pub returns-clause-assignment : goal.returns-clause-assignment

@@ -1,4 +1,4 @@
-use Rattle.og_csubset.proofs.Examples.{refused_no_semicolon, refused_leading_zero, refused_past_the_limit, refused_two_signs, refused_joined_signs, refused_keyword, refused_comment, refused_underscore, refused_label_alone, refused_first_line, refused_empty, refused_no_member, refused_size_zero, refused_size_past}
+use Rattle.og_csubset.proofs.TextExamples.{refused_no_semicolon, refused_leading_zero, refused_past_the_limit, refused_two_signs, refused_joined_signs, refused_keyword, refused_comment, refused_underscore, refused_label_alone, refused_first_line, refused_empty, refused_no_member, refused_size_zero, refused_size_past}
 use Rattle.og_csubset.proofs.spelling_laws.refused.Goals as goal
 
 pub returns-clause-no_semicolon : goal.returns-clause-no_semicolon

@@ -1,4 +1,4 @@
-use Rattle.og_csubset.proofs.Examples.{signs_negative, signs_zero, signs_bracket, signs_variable, signs_behind_minus}
+use Rattle.og_csubset.proofs.TextExamples.{signs_negative, signs_zero, signs_bracket, signs_variable, signs_behind_minus}
 use Rattle.og_csubset.proofs.spelling_laws.signs.Goals as goal
 
 pub returns-clause-negative : goal.returns-clause-negative

@@ -1,4 +1,4 @@
-use Rattle.og_csubset.proofs.Examples.{white_space_none, white_space_much}
+use Rattle.og_csubset.proofs.TextExamples.{white_space_none, white_space_much}
 use Rattle.og_csubset.proofs.spelling_laws.white_space.Goals as goal
 
 pub returns-clause-none : goal.returns-clause-none

@@ -1,4 +1,4 @@
-use Rattle.og_csubset.proofs.Examples.{whole_text_counting, whole_text_forms}
+use Rattle.og_csubset.proofs.TextExamples.{whole_text_counting, whole_text_forms}
 use Rattle.og_csubset.proofs.spelling_laws.whole_text.Goals as goal
 
 pub returns-clause-counting : goal.returns-clause-counting

@@ -1,11 +1,10 @@
-use Rattle.std.proofs.Common.{◌≡◌, ◌+◌, ◌-◌, ◌<◌, ◌≤◌, length, drop, take, sym, ap, ◌∙◌, subst, arith, length-drop}
-use Rattle.std.specs.Prelude.{Ok, Err}
+use Rattle.std.proofs.Common.{◌+◌, length, drop, take, sym, ap, ◌∙◌, subst, arith, length-drop}
 use Rattle.og_lexer.specs.Pieces.{IsOf, IsWithin}
 use Rattle.og_lexer.specs.Places.{place_after}
 use Rattle.og_lexer.specs.Front.{front_of}
-use Rattle.og_lexer.specs.Texts.{GainsPiece, Lexes}
+use Rattle.og_lexer.specs.Texts.{GainsPiece}
 use Rattle.og_lexer.proofs.Cutting.{lexes-once, lexes-apart}
-use Rattle.og_lexer.proofs.Reading.{SoFar, FrontHere, front_here, so_far-start, so_far-low, so_far-more, so_far-done, so_far-broken, lexes-tokens_in_place, lexes-comments_in_place, lexes-ends}
+use Rattle.og_lexer.proofs.Reading.{SoFar, FrontHere, front_here, so_far-low, so_far-more, so_far-done, so_far-broken, lexes-tokens_in_place, lexes-comments_in_place, lexes-ends}
 use Rattle.og_lexer.proofs.lexing.lex_sdl.Goals as goal
 use Rattle.og_lexer.proofs.lexing.lex_sdl.Goals.{In-Ok}
 

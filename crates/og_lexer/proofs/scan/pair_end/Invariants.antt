@@ -1,4 +1,4 @@
-use Rattle.std.proofs.Common.{◌≡◌, ◌+◌, ◌-◌, ◌≤◌, length, drop}
+use Rattle.std.proofs.Common.{◌≡◌, ◌-◌, ◌≤◌, length, drop}
 use Rattle.og_lexer.specs.Front.{pair_end, plus}
 use Rattle.og_lexer.proofs.scan.pair_end.Given as goal
 

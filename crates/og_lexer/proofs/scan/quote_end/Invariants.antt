@@ -1,4 +1,4 @@
-use Rattle.std.proofs.Common.{◌≡◌, ◌+◌, ◌-◌, ◌≤◌, true, length, drop}
+use Rattle.std.proofs.Common.{◌≡◌, ◌-◌, ◌≤◌, true, length, drop}
 use Rattle.og_lexer.specs.Front.{quote_end, later}
 use Rattle.og_lexer.proofs.scan.quote_end.Given as goal
 
