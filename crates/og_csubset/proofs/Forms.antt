@@ -1,5 +1,5 @@
 -- Cells keep the forms of their types, and whatever a program that loads names is there.
-use Rattle.std.proofs.Common.{◌≡◌, ℕ, zero, suc, ◌+◌, ◌<◌, ◌≤◌, max, ℤ, pos, negsuc, List, [], ◌∷◌, ◌++◌, Bool, true, false, cond, not, ◌&&◌, ◌||◌, ◌⊎◌, inl, inr, Option, Some, None, Result, Ok, Err, map, length, replicate, slice_get, refl, sym, ap, subst, ◌∙◌, arith}
+use Rattle.std.proofs.Common.{◌≡◌, ℕ, zero, suc, ◌+◌, ◌<◌, ◌≤◌, ℤ, List, [], ◌∷◌, Bool, true, false, cond, ◌&&◌, Option, Some, None, Result, Ok, Err, map, replicate, slice_get, refl, sym, ap, subst, ◌∙◌, arith}
 use Rattle.std.proofs.lemmas.Bool.{false≢true, ltb-true}
 use denote.Param.Weighed.{most}
 use Rattle.og_csubset.specs.declared.CStep.{size-CStep}
@@ -22,17 +22,17 @@ use Rattle.og_csubset.specs.declared.COp.{COp}
 use Rattle.og_csubset.specs.declared.COp.TheVariants as op
 use Rattle.og_ir.specs.Cells as cells
 use Rattle.og_ir.specs.Cells.{Cells, Cell, Empty, Both, number_in, part, change, part_at, put_at, global, change_global}
-use Rattle.og_ir.specs.Reading.{natural, only_if, below}
+use Rattle.og_ir.specs.Reading.{natural, below}
 use Rattle.og_ir.specs.Arithmetic.{Trouble, Overflow, Index, Divide, Value, ◌>>=◌, or_else, in_64_bits, is_zero, quotient_of}
 use Rattle.std.specs.Prelude.{find, ◌+ℤ◌, ◌-ℤ◌, ◌*ℤ◌, neg_ℤ, int_div}
 use Rattle.og_ir.proofs.ValueCells.{left_of, right_of}
 use Rattle.og_csubset.specs.declared.CTest.{size-CTest}
 use Rattle.og_ir.specs.FlatSteps.{Spot, cells_at, put}
-use Rattle.og_ir.proofs.ValueRead.{Bound, bound, same_value}
+use Rattle.og_ir.proofs.ValueRead.{bound, same_value}
 use Rattle.og_csubset.specs.Kinds.{Kind, place_in, global_names, global_kind, type_of_one, type_unless, members_of, member_in, member_of, element_of}
 use Rattle.og_csubset.specs.Loading.{is_number_type, kind_after, type_by, number_by, is_number, type_of_place}
 use Rattle.og_csubset.specs.Step.{walk, spot_by, operation, holds_by, side, value_by, value_of, spot_of}
-use Rattle.og_csubset.specs.Forms.{Form, One, Row, Unknown, kind_of_member, one_of, row_of, form_of_type, form_of_sized, form_of, HasForm, HaveForms}
+use Rattle.og_csubset.specs.Forms.{Form, One, Row, kind_of_member, one_of, row_of, form_of_type, form_of_sized, form_of, HasForm, HaveForms}
 
 -- a value that has P, or a trouble that is none of names and forms
 abbrev pub Good : {A : Type 0} → (A → Type 0) → Result A Trouble → Type 0

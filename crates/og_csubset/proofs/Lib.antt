@@ -23,6 +23,8 @@ pub mod WrongPlace
 pub mod WellMade
 pub mod Forms
 pub mod Steady
+pub mod Layouts
+pub mod Beginnings
 pub mod Recognizer
 pub mod Accepted
 pub mod Recognized

@@ -1,5 +1,5 @@
 -- A program that loads keeps to cells, functions and labels that are there.
-use Rattle.std.proofs.Common.{◌≡◌, ℕ, zero, suc, ◌+◌, ◌<◌, ◌≤◌, ℤ, pos, List, [], ◌∷◌, ◌++◌, Bool, true, false, cond, not, ◌&&◌, ◌||◌, ◌⊎◌, inl, inr, Option, Some, None, Result, Ok, Err, map, length, replicate, slice_get, refl, sym, ap, subst, ◌∙◌, arith}
+use Rattle.std.proofs.Common.{◌≡◌, ℕ, zero, suc, ◌+◌, ◌<◌, ℤ, List, [], ◌∷◌, ◌++◌, Bool, true, false, cond, not, ◌&&◌, ◌||◌, ◌⊎◌, inl, inr, Option, Some, None, Result, Ok, Err, map, length, replicate, slice_get, refl, sym, ap, subst, ◌∙◌, arith}
 use Rattle.std.specs.Prelude.{find, flat_map, is_some, option_map}
 use Rattle.std.specs.List.{list_all, list_any, AllByRecursion}
 use Rattle.std.specs.Str.{bytes_eq}
@@ -26,29 +26,28 @@ use Rattle.og_csubset.specs.declared.CTest.{CTest}
 use Rattle.og_ir.specs.Cells as cells
 use Rattle.og_ir.specs.Cells.{Cells, Cell, Empty, Both, row, equal_parts, cells_by}
 use Rattle.og_ir.specs.Arithmetic.{Trouble, Overflow, Index, Divide, Value, ◌>>=◌, or_else, is_same}
-use Rattle.og_ir.specs.Steps.{Frame, Config, Running, Over, Broken, Ran, quiet, and_then, exec, with_value, onward, jumped, returned, called, showing}
-use Rattle.og_ir.specs.FlatSteps.{Spot, cells_at, put}
+use Rattle.og_ir.specs.Steps.{Frame, Config, Running, Over, Broken, Ran, quiet, exec, with_value, onward, jumped, returned, called, showing}
 use Rattle.og_ir.proofs.ValueCells.{left_of, right_of}
-use Rattle.og_ir.proofs.ValueRead.{Bound, bound, same_value}
-use Rattle.og_csubset.specs.Kinds.{Kind, place_in, is_in, struct_names, global_names, event_names, function_names, same_type, members_of, sized, blank_within, blank_type, first_globals}
+use Rattle.og_ir.proofs.ValueRead.{same_value}
+use Rattle.og_csubset.specs.Kinds.{place_in, is_in, struct_names, global_names, event_names, function_names, same_type, members_of, sized, blank_within, blank_type, first_globals}
 use Rattle.og_csubset.specs.Loading.{has_twice, all_names, is_known, structs_known, is_number, type_of_place, type_of_shape, type_of, agree, is_typed, repeats_case, labels_of, targets_of, has_labels, calls_known, functions_known, breaks_K3, breaks_K4, breaks_K5, breaks_K6, breaks_K7, first_load_rule, Loads}
-use Rattle.og_csubset.specs.Step.{value_of, holds, spot_of, assigned, is_label, label_in, gone, case_of, call, act, fetched, cstep}
-use Rattle.og_csubset.specs.Forms.{Form, One, Row, Unknown, kind_of_member, one_of, row_of, form_of_type, form_of_sized, form_of, HasForm, HaveForms, IsOfNumbers, IsCall, IsSteady}
+use Rattle.og_csubset.specs.Step.{value_of, holds, spot_of, assigned, is_label, label_in, gone, case_of, act, fetched, cstep}
+use Rattle.og_csubset.specs.Forms.{Row, kind_of_member, one_of, row_of, form_of_type, form_of_sized, HasForm, HaveForms, IsCall, IsSteady}
 use Rattle.og_model.specs.declared.Model.{Model}
 use Rattle.og_csubset.proofs.Extension.{not_false}
 use Rattle.og_csubset.proofs.ExtensionRuns.{or_left, or_right}
-use Rattle.og_csubset.proofs.Forms.{Good, good_bind, FoundSpot, value_good, place_good, chosen}
+use Rattle.og_csubset.proofs.Forms.{Good, good_bind, FoundSpot, value_good, place_good}
 
 -- ---- lists and names
 
 -- what holds of each element holds of the one at a place
-all_at : {A : Type 0} (p : A → Bool) (xs : List A) (k : ℕ) (x : A) → list_all p xs ≡ true → slice_get xs k ≡ Some x → p x ≡ true
+pub all_at : {A : Type 0} (p : A → Bool) (xs : List A) (k : ℕ) (x : A) → list_all p xs ≡ true → slice_get xs k ≡ Some x → p x ≡ true
 all_at p [] k x h e = absurd (none-some x e)
 all_at p (y ∷ xs) zero x h e = subst (λ z. p z ≡ true) (same_value y x e) (left_of (p y) (list_all p xs) h)
 all_at p (y ∷ xs) (suc k) x h e = all_at p xs k x (right_of (p y) (list_all p xs) h) e
 
 -- the same of what the elements are mapped to
-all_of_each : {A B : Type 0} (q : B → Bool) (f : A → List B) (xs : List A) (k : ℕ) (x : A) → list_all q (flat_map f xs) ≡ true → slice_get xs k ≡ Some x → list_all q (f x) ≡ true
+pub all_of_each : {A B : Type 0} (q : B → Bool) (f : A → List B) (xs : List A) (k : ℕ) (x : A) → list_all q (flat_map f xs) ≡ true → slice_get xs k ≡ Some x → list_all q (f x) ≡ true
 all_of_each q f [] k x h e = absurd (none-some x e)
 all_of_each q f (y ∷ xs) zero x h e =
     subst (λ z. list_all q (f z) ≡ true) (same_value y x e) (left_of (list_all q (f y)) (list_all q (flat_map f xs)) (sym (list_all-append q (f y) (flat_map f xs)) ∙ h))
@@ -68,11 +67,11 @@ or_second true b h = refl
 or_second false b h = h
 
 -- A name's place, with what stands there.
-record Named {A : Type 0} (text : A → List ℕ) (xs : List A) (name : List ℕ) : Type 0 where
-  place : ℕ
-  found : A
-  is : place_in name (map text xs) ≡ Some place
-  stands : slice_get xs place ≡ Some found
+pub record Named {A : Type 0} (text : A → List ℕ) (xs : List A) (name : List ℕ) : Type 0 where
+  pub place : ℕ
+  pub found : A
+  pub is : place_in name (map text xs) ≡ Some place
+  pub stands : slice_get xs place ≡ Some found
 
 named_by : {A : Type 0} (b : Bool) (text : A → List ℕ) (x : A) (xs : List A) (name : List ℕ) → bytes_eq name (text x) ≡ b → (b || is_in name (map text xs)) ≡ true → (is_in name (map text xs) ≡ true → Named text xs name) → Named text (x ∷ xs) name
 named_by true text x xs name e h more = record {
@@ -94,7 +93,7 @@ named_by false text x xs name e h more =
     }
 
 -- a name that is in has a place
-named_place : {A : Type 0} (text : A → List ℕ) (xs : List A) (name : List ℕ) → is_in name (map text xs) ≡ true → Named text xs name
+pub named_place : {A : Type 0} (text : A → List ℕ) (xs : List A) (name : List ℕ) → is_in name (map text xs) ≡ true → Named text xs name
 named_place text [] name h = absurd (false≢true h)
 named_place text (x ∷ xs) name h = named_by (bytes_eq name (text x)) text x xs name refl h (named_place text xs name)
 
@@ -383,7 +382,7 @@ twice_in_front (x ∷ xs) ys h =
     ∙ twice_in_front xs ys (or_right (is_in x (xs ++ ys)) (has_twice (xs ++ ys)) h)
 
 -- a chain of tests that comes to nothing
-unchained : {A : Type 0} (b : Bool) (x : A) (rest : Option A) → cond b (Some x) rest ≡ None → (b ≡ false) × (rest ≡ None)
+pub unchained : {A : Type 0} (b : Bool) (x : A) (rest : Option A) → cond b (Some x) rest ≡ None → (b ≡ false) × (rest ≡ None)
 unchained true x rest e = absurd (none-some x (sym e))
 unchained false x rest e = (refl, e)
 

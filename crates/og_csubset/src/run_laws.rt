@@ -1,6 +1,6 @@
 //! What holds of each run of a program of the C subset, of each run of flat code, and of programs that agree with a model.
 
-ghost use Rattle.std.specs.Prelude.{◌≡◌, ℕ, ◌+◌, ◌≤◌, List, Option, false, IsSome};
+ghost use Rattle.std.specs.Prelude.{◌≡◌, ℕ, ◌+◌, ◌≤◌, List, Option, false, IsSome, IfSome, IsTrue};
 ghost use Rattle.og_model.specs.declared.Model.{Model as Process};
 ghost use Rattle.og_model.specs.Shown.{Stimulus, has_past, has_stuck, Begins};
 ghost use Rattle.og_model.specs.Run.{sdl};
@@ -12,13 +12,13 @@ ghost use Rattle.og_csubset.specs.declared.CProgram.{CProgram as Program};
 ghost use Rattle.og_csubset.specs.declared.CExpr.{CExpr as Expression, out-CExpr};
 ghost use Rattle.og_csubset.specs.Loading.{number_by, is_number};
 ghost use Rattle.og_csubset.specs.Step.{cstep, value_by, value_of};
-ghost use Rattle.og_csubset.specs.Run.{c};
+ghost use Rattle.og_csubset.specs.Run.{c_machine, c};
 ghost use Rattle.og_csubset.specs.FlatRun.{flat, flat_in_64_bits};
 ghost use Rattle.og_csubset.specs.Loading.{Loads};
 ghost use Rattle.og_csubset.specs.Kinds.{first_globals};
 ghost use Rattle.og_csubset.specs.Forms.{HaveForms, IsSteady};
 ghost use Rattle.og_csubset.specs.Extension.{Extends, shown_over};
-ghost use Rattle.og_csubset.specs.Agreement.{enough, AreStimuli, SameBehaviour};
+ghost use Rattle.og_csubset.specs.Agreement.{enough, is_stimulus, AreStimuli, SameBehaviour};
 
 /// A run of j + k statements is one of j statements, and then one of k statements from where that one has come to.
 pub fn statements_split<E>()
@@ -95,11 +95,16 @@ pub fn larger_models_show_the_same()
         → c program model stimuli m ≡ shown_over model (c program larger stimuli m) }
 {}
 
-/// A program that loads starts with cells of its globals' forms, and whatever it does they keep these forms, every name,
-/// label and function is there, and it is broken by a number, an index or a divisor alone, where each event can be shown.
+/// A program that loads starts with cells of its globals' forms. Each stimulus of the model begins with such cells and a
+/// function that is there, and whatever the program does the cells keep their forms, every name, label and function is
+/// there, and it is broken by a number, an index or a divisor alone, where each event can be shown.
 pub fn loaded_programs_are_steady<E>()
     ensures at_load { (program : Program) (model : Process) → Loads program model
         → HaveForms program.structs program.globals (first_globals program) }
+    ensures begins { (program : Program) (model : Process) → Loads program model → (stimulus : Option Stimulus)
+        → IfSome stimulus (λ s. IsTrue (is_stimulus model s))
+        → (globals : List Cells) → HaveForms program.structs program.globals globals
+        → IsSteady program ((c_machine program model).begin stimulus globals) }
     ensures keeps { (program : Program) (model : Process) → Loads program model → (shows : List ℕ → List Cells → Option E)
         → ((name : List ℕ) (globals : List Cells) → IsSome (shows name globals))
         → (n : ℕ) (config : Config) → IsSteady program config

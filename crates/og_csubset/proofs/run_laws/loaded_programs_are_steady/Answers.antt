@@ -1,3 +1,4 @@
+use Rattle.og_csubset.proofs.Beginnings.{begun_steady}
 use Rattle.og_csubset.proofs.Steady.{first_formed, loaded_steady}
 use Rattle.og_csubset.proofs.run_laws.loaded_programs_are_steady.Goals as goal
 
@@ -6,3 +7,6 @@ returns-clause-at_load g c = first_formed
 
 pub returns-clause-keeps : goal.returns-clause-keeps
 returns-clause-keeps g c = loaded_steady
+
+pub returns-clause-begins : goal.returns-clause-begins
+returns-clause-begins g c = begun_steady
