@@ -27,3 +27,4 @@ pub mod Recognized
 pub mod Viable
 pub mod Judged
 pub mod OneAnswer
+pub mod WrongExamples
