@@ -7,7 +7,7 @@ mod run_laws;
 mod spelling_laws;
 
 use og_names::Word;
-pub use spelling_laws::{brackets, least_number, nesting_counts, one_answer, one_deep_place, one_list_of_tokens, one_program, one_wrong_place, plain_text_of_each, refused, signs, white_space, whole_text};
+pub use spelling_laws::{brackets, least_number, nesting_counts, one_answer, one_deep_place, one_list_of_tokens, one_program, one_wrong_place, plain_text_of_each, refused, signs, white_space, whole_text, wrong_places};
 use sqlite_items::{Boxed, Items};
 pub use flat_examples::flat_code_runs;
 pub use run_examples::{hand_written_text_runs, load_rules_are_reported, single_statements_compute};

@@ -7,7 +7,7 @@ ghost use Rattle.og_csubset.specs.declared.COp.TheVariants.{Add, Sub, Mul, Div, 
 ghost use Rattle.og_csubset.specs.Tokens.{Token, HasTokens};
 ghost use Rattle.og_csubset.specs.Nesting.{nesting, HasNesting, IsWithinNesting, PassesNesting};
 ghost use Rattle.og_csubset.specs.Plain.{plain_tokens, plain_text, IsWellMade};
-ghost use Rattle.og_csubset.specs.Refusals.{IsTooDeep, IsBad};
+ghost use Rattle.og_csubset.specs.Refusals.{IsTooDeep, IsBad, GoesWrongAt};
 ghost use Rattle.og_csubset.specs.Wrong.{GoesWrong};
 ghost use Rattle.og_csubset.specs.Spelling.{CSpells, least};
 ghost use Rattle.og_csubset.specs.Texts.{lines, in_brackets, statements_text, number_of, spaced_statement, Assigns, SpeltByNone, counting, counting_text, forms, forms_text};
@@ -155,4 +155,24 @@ pub fn one_answer()
         → CSpells P text → IsBad limit text before → ⊥ }
     ensures not_deep_and_bad { (limit : ℕ) (text before other : List ℕ)
         → IsTooDeep limit text before → IsBad limit text other → ⊥ }
+{}
+
+/// Where some texts go wrong, by line and column, counted by hand.
+pub fn wrong_places()
+    ensures cut_in_a_word { GoesWrongAt
+        (lines (codes "#include <stdint.h>" ∷ []) ++ codes "void sta") 2 9 }
+    ensures behind_the_last_line { GoesWrongAt
+        (lines (codes "#include <stdint.h>" ∷ codes "void f(void) {" ∷ [])) 3 1 }
+    ensures no_semicolon { GoesWrongAt (statements_text (codes "x = a")) 2 20 }
+    ensures leading_zero { GoesWrongAt (statements_text (codes "x = INT64_C(07);")) 2 27 }
+    ensures past_the_limit { GoesWrongAt
+        (statements_text (codes "x = INT64_C(9223372036854775808);")) 2 27 }
+    ensures two_signs { GoesWrongAt (statements_text (codes "x = - - a;")) 2 21 }
+    ensures joined_signs { GoesWrongAt (statements_text (codes "x = a --INT64_C(1);")) 2 21 }
+    ensures keyword { GoesWrongAt (statements_text (codes "while = a;")) 2 15 }
+    ensures label_alone { GoesWrongAt (statements_text (codes "l:")) 2 17 }
+    ensures foreign_byte { GoesWrongAt (statements_text (codes "x = a & b;")) 2 21 }
+    ensures size_past { GoesWrongAt
+        (lines (codes "#include <stdint.h>" ∷ codes "typedef struct { int64_t e[65537]; } A;" ∷ [])) 2 28 }
+    ensures first_line { GoesWrongAt (lines (codes "#include  <stdint.h>" ∷ [])) 1 1 }
 {}
