@@ -1,11 +1,11 @@
 -- A text is spelt by a program, or goes wrong at a place: the recognizer tells which, going over its tokens once.
-use Rattle.std.proofs.Common.{◌≡◌, ℕ, zero, suc, ◌+◌, ◌<◌, ◌≤◌, Bool, true, false, cond, List, [], ◌∷◌, ◌++◌, length, ◌⊎◌, inl, inr, Option, Some, None, refl, sym, ap, ◌∙◌, subst, arith, append_assoc, append-nil}
+use Rattle.std.proofs.Common.{◌≡◌, ℕ, zero, suc, ◌≤◌, Bool, true, false, List, [], ◌∷◌, ◌++◌, length, ◌⊎◌, inl, inr, Option, Some, None, refl, sym, ap, ◌∙◌, subst, arith, append_assoc}
 use Rattle.std.specs.List.{list_all}
 use Rattle.std.proofs.lemmas.Bool.{true≢false}
 use Rattle.og_csubset.specs.declared.CProgram.{CProgram}
-use Rattle.og_csubset.specs.Tokens.{Token, spelling, is_space, Begins, Cuts, Lexes, HasTokens, first_line}
+use Rattle.og_csubset.specs.Tokens.{Token, spelling, is_space, Begins, Cuts, first_line}
 use Rattle.og_csubset.specs.Spelling.{IsProgram, CSpells}
-use Rattle.og_csubset.specs.Wrong.{BeginsProgram, BeginsWithNoSpace, GoesWrongBehind, GoesWrong, in_first_line, behind}
+use Rattle.og_csubset.specs.Wrong.{BeginsProgram, BeginsWithNoSpace, GoesWrong, in_first_line, behind}
 use Rattle.og_csubset.proofs.Lexing.{cut, StopsAt, next_token, next-begins, nothing_first}
 use Rattle.og_csubset.proofs.Lexed.{begins-next, cut_joined, cut_all, cut_stops}
 use Rattle.og_csubset.proofs.Seen.{nothing, Some-same}
@@ -26,9 +26,10 @@ unfoldable pub cuts_bytes : (ts : List Token) (bytes rest : List ℕ) → Cuts t
 cuts_bytes [] bytes rest c = ([], c)
 cuts_bytes (t ∷ ts) bytes rest c =
     let others = cuts_bytes ts c.0 rest c.2 in
-    let b = c.1 in
-    (b.space ++ (spelling t ++ others.0),
-        b.joined ∙ (ap (λ l. b.space ++ (spelling t ++ l)) others.1 ∙ regroup b.space (spelling t) others.0 rest))
+    let b = c.1 in (
+      b.space ++ (spelling t ++ others.0),
+      b.joined ∙ (ap (λ l. b.space ++ (spelling t ++ l)) others.1 ∙ regroup b.space (spelling t) others.0 rest),
+    )
 
 pub no_space : (bs : List ℕ) → StopsAt is_space bs → BeginsWithNoSpace bs
 no_space [] h = tt
@@ -48,23 +49,25 @@ unfoldable pub wrong_here : (text body rest : List ℕ) (ts : List Token) (S : S
     → (list_all is_space rest ≡ true → (P : CProgram) → IsProgram P ts → ⊥) → (before : List ℕ) × GoesWrong text before
 wrong_here text body rest ts S a no_token no_end =
     let space = (cut is_space rest).0 in
-    let here = (cut is_space rest).1 in
-    (a.taken ++ space, behind (record {
-      tokens = ts;
-      body = body;
-      rest = rest;
-      space = space;
-      here = here;
-      starts = a.starts;
-      cuts = a.cuts;
-      so_far = viable S ts a.runs;
-      no_token = no_token;
-      no_end = no_end;
-      joined = cut_joined is_space rest;
-      blank = cut_all is_space rest;
-      at_byte = no_space here (cut_stops is_space rest);
-      place = a.joined ∙ (ap (λ l. a.taken ++ l) (cut_joined is_space rest) ∙ sym (append_assoc a.taken space here));
-    }))
+    let here = (cut is_space rest).1 in (
+      a.taken ++ space,
+      behind (record {
+        tokens = ts;
+        body = body;
+        rest = rest;
+        space = space;
+        here = here;
+        starts = a.starts;
+        cuts = a.cuts;
+        so_far = viable S ts a.runs;
+        no_token = no_token;
+        no_end = no_end;
+        joined = cut_joined is_space rest;
+        blank = cut_all is_space rest;
+        at_byte = no_space here (cut_stops is_space rest);
+        place = a.joined ∙ (ap (λ l. a.taken ++ l) (cut_joined is_space rest) ∙ sym (append_assoc a.taken space here));
+      }),
+    )
 
 abbrev pub Judged : List ℕ → Type 0
 Judged text = ((P : CProgram) × CSpells P text) ⊎ ((before : List ℕ) × GoesWrong text before)
@@ -75,6 +78,7 @@ at_no_token text body rest ts S a e = go (list_all is_space rest) (may_end S) re
   where
     none_stands : (t : Token) (more : List ℕ) → Begins rest t more → BeginsProgram (ts ++ t ∷ []) → ⊥
     none_stands t more b h = nothing (t, more) (sym e ∙ next-begins rest t more b)
+
     go : (c d : Bool) → list_all is_space rest ≡ c → may_end S ≡ d → Judged text
     go true true blank ends =
         let found = ended_program S ts a.runs ends in inl (found.0, (ts, (body, a.starts, (rest, a.cuts, blank)), found.1))
@@ -86,8 +90,8 @@ unfoldable pub at_refused : (text body rest more : List ℕ) (ts : List Token) (
     → step S u ≡ None → Judged text
 at_refused text body rest more ts S u a e refused =
     inr (wrong_here text body rest ts S a
-        (λ t us b h. refused_next S ts u a.runs refused (subst (λ x. BeginsProgram (ts ++ x ∷ [])) (same_token t us b) h))
-        (λ blank P p. nothing_first rest u more blank (begins-next rest u more e)))
+    (λ t us b h. refused_next S ts u a.runs refused (subst (λ x. BeginsProgram (ts ++ x ∷ [])) (same_token t us b) h))
+    (λ blank P p. nothing_first rest u more blank (begins-next rest u more e)))
   where
     same_token : (t : Token) (us : List ℕ) → Begins rest t us → t ≡ u
     same_token t us b = ap (λ p. p.0) (Some-same (t, us) (u, more) (sym (next-begins rest t us b) ∙ e))
@@ -102,6 +106,7 @@ judge (suc n) text body rest ts S fits a = go (λ more us T k b. judge n text bo
   where
     Later : Type 0
     Later = (more : List ℕ) (us : List Token) (T : Symbols) → length more ≤ n → At text body more us T → Judged text
+
     taken : Later → (p : Token × List ℕ) → next_token rest ≡ Some p → (o : Option Symbols) → step S p.0 ≡ o → Judged text
     taken later p e None k = at_refused text body rest p.1 ts S p.0 a e k
     taken later p e (Some T) k =
@@ -113,6 +118,7 @@ judge (suc n) text body rest ts S fits a = go (λ more us T k b. judge n text bo
           cuts = cuts_more ts body rest p.1 p.0 a.cuts b;
           runs = run-more program_symbols S T ts p.0 a.runs k;
         })
+
     go : Later → (o : Option (Token × List ℕ)) → next_token rest ≡ o → Judged text
     go later None e = at_no_token text body rest ts S a e
     go later (Some p) e = taken later p e (step S p.0) refl
@@ -125,4 +131,4 @@ judged text = go (behind_bytes first_line text) refl
     go None e = inr ([], in_first_line (λ body h. nothing body (sym e ∙ (ap (behind_bytes first_line) h ∙ behind_complete first_line body))))
     go (Some body) e =
         judge (length body) text body body [] program_symbols (omega arith)
-            (record { taken = first_line; joined = behind_sound first_line text body e; starts = behind_sound first_line text body e; cuts = refl; runs = refl })
+        (record { taken = first_line; joined = behind_sound first_line text body e; starts = behind_sound first_line text body e; cuts = refl; runs = refl })

@@ -149,20 +149,22 @@ pub past_in : (limit : ℕ) (text body end : List ℕ) (tokens : List Token) →
     → (before : List ℕ) × PassesNesting limit text before
 past_in limit text body end tokens starts cuts past =
     let w = way limit outermost body end tokens cuts past in
-    let b = w.goes.begins in
-    (first_line ++ (w.bytes ++ b.space), record {
-      tokens = w.tokens;
-      token = w.token;
-      body = body;
-      here = w.here;
-      rest = w.rest;
-      starts = starts;
-      cuts = w.goes.cuts;
-      begins = b;
-      place = starts ∙ (ap (λ l. first_line ++ l) (w.joined ∙ ap (λ l. w.bytes ++ l) b.joined) ∙ regroup first_line w.bytes b.space (spelling w.token ++ w.rest));
-      within = w.goes.within;
-      past = w.goes.past;
-    })
+    let b = w.goes.begins in (
+      first_line ++ (w.bytes ++ b.space),
+      record {
+        tokens = w.tokens;
+        token = w.token;
+        body = body;
+        here = w.here;
+        rest = w.rest;
+        starts = starts;
+        cuts = w.goes.cuts;
+        begins = b;
+        place = starts ∙ (ap (λ l. first_line ++ l) (w.joined ∙ ap (λ l. w.bytes ++ l) b.joined) ∙ regroup first_line w.bytes b.space (spelling w.token ++ w.rest));
+        within = w.goes.within;
+        past = w.goes.past;
+      },
+    )
 
 pub past_somewhere : (limit : ℕ) (text : List ℕ) (tokens : List Token) → HasTokens tokens text → limit < nesting tokens
     → (before : List ℕ) × PassesNesting limit text before

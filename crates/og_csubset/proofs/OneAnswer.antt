@@ -1,16 +1,16 @@
 -- Each text is spelt by a program within the limit of nesting, or is too deep at a place, or is bad at a place.
-use Rattle.std.proofs.Common.{◌≡◌, ℕ, zero, suc, ◌+◌, ◌<◌, ◌≤◌, max, Bool, true, false, List, [], ◌∷◌, ◌++◌, length, ◌⊎◌, inl, inr, ⊎_elim, refl, sym, ap, ◌∙◌, subst, arith, le_trans, length-append}
+use Rattle.std.proofs.Common.{◌≡◌, ℕ, ◌<◌, ◌≤◌, true, List, [], ◌∷◌, ◌++◌, length, ◌⊎◌, inl, inr, ⊎_elim, sym, ap, ◌∙◌, subst, arith, length-append}
 use Rattle.std.specs.List.{list_all}
 use Rattle.std.proofs.Math.Nat.{max-le}
 use Rattle.std.proofs.lemmas.Bool.{cases_lt}
 use Rattle.std.proofs.lemmas.List.{append_cancel_left}
 use Rattle.og_csubset.specs.declared.CProgram.{CProgram}
-use Rattle.og_csubset.specs.Tokens.{Token, spelling, is_space, Begins, Cuts, HasTokens, first_line}
+use Rattle.og_csubset.specs.Tokens.{Token, spelling, is_space, Begins, Cuts, first_line}
 use Rattle.og_csubset.specs.Spelling.{CSpells}
-use Rattle.og_csubset.specs.Nesting.{Nest, outermost, after_token, after_tokens, nesting_from, nesting, IsWithinNesting, PassesNesting}
+use Rattle.og_csubset.specs.Nesting.{Nest, outermost, after_token, nesting_from, nesting, IsWithinNesting, PassesNesting}
 use Rattle.og_csubset.specs.Wrong.{BeginsWithNoSpace, GoesWrongBehind, GoesWrong, in_first_line, behind}
 use Rattle.og_csubset.specs.Refusals.{IsTooDeep, IsBad}
-use Rattle.og_csubset.proofs.Lexing.{cut, StopsAt, cut-append, same_first, no_space_first}
+use Rattle.og_csubset.proofs.Lexing.{cut, cut-append, same_first, no_space_first}
 use Rattle.og_csubset.proofs.Text.{some_byte}
 use Rattle.og_csubset.proofs.Nested.{Passes, depth, first_within, others_within, past_in, past_somewhere}
 use Rattle.og_csubset.proofs.WrongPlace.{GoesWrong-unique, spelt_or_wrong, stops}
@@ -25,7 +25,7 @@ stripped : (end space here : List ℕ) (t : Token) (rest : List ℕ) → end ≡
 stripped end space here t rest e blank first b =
     let mine : cut is_space end ≡ (space, here) = ap (cut is_space) e ∙ cut-append is_space space here blank (stops here first) in
     let its : cut is_space end ≡ (b.space, spelling t ++ rest) =
-        ap (cut is_space) b.joined ∙ cut-append is_space b.space (spelling t ++ rest) b.blank (no_space_first t rest b.is_token) in
+    ap (cut is_space) b.joined ∙ cut-append is_space b.space (spelling t ++ rest) b.blank (no_space_first t rest b.is_token) in
     ap (λ p. p.1) (sym mine ∙ its)
 
 begins_length : (bytes : List ℕ) (t : Token) (rest : List ℕ) → Begins bytes t rest → length (spelling t ++ rest) ≤ length bytes
@@ -55,8 +55,8 @@ later limit n body end space wrong (v ∷ ts) (u ∷ us) t here rest c w e blank
       past = p.past;
     } in
     let p'' : Passes limit (after_token v n) c.0 us t here rest =
-        subst (λ x. Passes limit (after_token x n) c.0 us t here rest) same.0
-            (subst (λ b. Passes limit (after_token u n) b us t here rest) same.1 p') in
+    subst (λ x. Passes limit (after_token x n) c.0 us t here rest) same.0
+    (subst (λ b. Passes limit (after_token u n) b us t here rest) same.1 p') in
     later limit (after_token v n) c.0 end space wrong ts us t here rest c.2 (others_within limit n v ts w) e blank first p''
 
 -- the first token that passes is one of tokens that do not stay within the limit
@@ -75,11 +75,11 @@ sooner limit n body end (v ∷ ts) (u ∷ us) t here rest c past p =
       past = p.past;
     } in
     let p'' : Passes limit (after_token v n) c.0 us t here rest =
-        subst (λ x. Passes limit (after_token x n) c.0 us t here rest) same.0
-            (subst (λ b. Passes limit (after_token u n) b us t here rest) same.1 p') in
+    subst (λ x. Passes limit (after_token x n) c.0 us t here rest) same.0
+    (subst (λ b. Passes limit (after_token u n) b us t here rest) same.1 p') in
     let here_within : depth (after_token v n) ≤ limit = subst (λ x. depth (after_token x n) ≤ limit) same.0 (first_within limit n u us p.within) in
     let more : limit < nesting_from (after_token v n) ts =
-        ⊎_elim (λ k. k) (λ k. let all = max-le here_within k in absurd (omega (arith, past, all))) (cases_lt limit (nesting_from (after_token v n) ts)) in
+    ⊎_elim (λ k. k) (λ k. let all = max-le here_within k in absurd (omega (arith, past, all))) (cases_lt limit (nesting_from (after_token v n) ts)) in
     sooner limit (after_token v n) c.0 end ts us t here rest c.2 more p''
 
 passes : (limit : ℕ) (text before : List ℕ) (h : PassesNesting limit text before) → Passes limit outermost h.body h.tokens h.token h.here h.rest
@@ -101,7 +101,7 @@ bad_later limit text before w within = record { wrong = behind w; passes_later =
     not_before other q =
         let body : q.body ≡ w.body = append_cancel_left first_line q.body w.body (sym q.starts ∙ w.starts) in
         let short = later limit outermost w.body w.rest w.space w.here w.tokens q.tokens q.token q.here q.rest w.cuts within w.joined w.blank w.at_byte
-            (subst (λ b. Passes limit outermost b q.tokens q.token q.here q.rest) body (passes limit text other q)) in
+        (subst (λ b. Passes limit outermost b q.tokens q.token q.here q.rest) body (passes limit text other q)) in
         omega (arith, short, ap (λ l. length l) (sym w.place ∙ q.place), length-append before w.here, length-append other (spelling q.token ++ q.rest))
 
 deep : (limit : ℕ) (text before : List ℕ) (w : GoesWrongBehind text before) → limit < nesting w.tokens → (other : List ℕ) → PassesNesting limit text other
@@ -114,9 +114,18 @@ deep limit text before w past other q = record { passes = q; wrong_later = after
         let body : q.body ≡ w.body = append_cancel_left first_line q.body w.body (sym q.starts ∙ w.starts) in
         let p = subst (λ b. Passes limit outermost b q.tokens q.token q.here q.rest) body (passes limit text other q) in
         let short = sooner limit outermost w.body w.rest w.tokens q.tokens q.token q.here q.rest w.cuts past p in
-        omega (arith, short, ap (λ l. length l) here, ap (λ l. length l) (sym w.place ∙ q.place), length-append before w.here,
-            length-append other (spelling q.token ++ q.rest), length-append (spelling q.token) q.rest, some_byte q.token q.begins.is_token,
-            ap (λ l. length l) w.joined, length-append w.space w.here)
+        omega (
+          arith,
+          short,
+          ap (λ l. length l) here,
+          ap (λ l. length l) (sym w.place ∙ q.place),
+          length-append before w.here,
+          length-append other (spelling q.token ++ q.rest),
+          length-append (spelling q.token) q.rest,
+          some_byte q.token q.begins.is_token,
+          ap (λ l. length l) w.joined,
+          length-append w.space w.here,
+        )
 
 pub one_answer : (limit : ℕ) (text : List ℕ) → ((P : CProgram) × CSpells P text × IsWithinNesting limit text)
     ⊎ (((before : List ℕ) × IsTooDeep limit text before) ⊎ ((before : List ℕ) × IsBad limit text before))
@@ -129,8 +138,10 @@ one_answer limit text = ⊎_elim spelt wrong (judged text)
         past h =
             let q = past_somewhere limit text s.1.0 s.1.1 h in
             inr (inl (q.0, record { passes = q.1; wrong_later = λ other k. absurd (spelt_or_wrong s.0 text other s.1 k) }))
+
         within : nesting s.1.0 ≤ limit → Answer limit text
         within h = inl (s.0, s.1, (s.1.0, s.1.1, h))
+
     behind_first : (before : List ℕ) → GoesWrongBehind text before → Answer limit text
     behind_first before w = ⊎_elim past within (cases_lt limit (nesting w.tokens))
       where
@@ -138,10 +149,13 @@ one_answer limit text = ⊎_elim spelt wrong (judged text)
         past h =
             let q = past_in limit text w.body w.rest w.tokens w.starts w.cuts h in
             inr (inl (q.0, deep limit text before w h q.0 q.1))
+
         within : nesting w.tokens ≤ limit → Answer limit text
         within h = inr (inr (before, bad_later limit text before w h))
+
     at : (before : List ℕ) → GoesWrong text before → Answer limit text
     at before (in_first_line h) = inr (inr ([], bad_at_once limit text h))
     at before (behind w) = behind_first before w
+
     wrong : (before : List ℕ) × GoesWrong text before → Answer limit text
     wrong k = at k.0 k.1

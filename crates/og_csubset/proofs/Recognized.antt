@@ -1,18 +1,14 @@
 -- What the recognizer accepts the grammar has.
-use Rattle.std.proofs.Common.{◌≡◌, ℕ, zero, suc, ◌+◌, ◌-◌, ◌^◌, ◌<◌, ◌≤◌, Bool, true, false, cond, ◌&&◌, ◌==◌, List, [], ◌∷◌, ◌++◌, length, IsTrue, ℤ, pos, negsuc, neg_ℤ, ◌⊎◌, inl, inr, ⊎_elim, Option, Some, None, refl, sym, ap, ◌∙◌, subst, arith, nat_lt, nat_le, eqb-true, leb-true, ltb-true}
+use Rattle.std.proofs.Common.{◌≡◌, ℕ, zero, suc, ◌-◌, ◌^◌, ◌<◌, ◌≤◌, Bool, true, false, cond, ◌&&◌, ◌==◌, List, [], ◌∷◌, ◌++◌, length, ℤ, pos, negsuc, neg_ℤ, ◌⊎◌, inl, inr, ⊎_elim, Some, None, refl, sym, ap, ◌∙◌, subst, arith, nat_lt, nat_le, eqb-true, leb-true, ltb-true}
 use Rattle.std.proofs.lemmas.Bool.{true≢false, and_parts}
 use Rattle.og_names.specs.declared.Word.{Word}
 use Rattle.og_csubset.specs.declared.CProgram.{CProgram}
 use Rattle.og_csubset.specs.declared.CStruct.{CStruct}
-use Rattle.og_csubset.specs.declared.CMember.{CMember}
-use Rattle.og_csubset.specs.declared.CGlobal.{CGlobal}
 use Rattle.og_csubset.specs.declared.CType.{CType}
 use Rattle.og_csubset.specs.declared.CType.TheVariants.{Int64, Struct}
 use Rattle.og_csubset.specs.declared.CFunction.{CFunction}
 use Rattle.og_csubset.specs.declared.CStmt.{CStmt}
 use Rattle.og_csubset.specs.declared.CStmt.TheVariants.{Assign, IfGoto, Goto, Label, Switch, Call, Return}
-use Rattle.og_csubset.specs.declared.CCase.{CCase}
-use Rattle.og_csubset.specs.declared.CPlace.{CPlace}
 use Rattle.og_csubset.specs.declared.CStep.{CStep, Member, At}
 use Rattle.og_csubset.specs.declared.CExpr.{CExpr, Number, Read, Minus, Op, Pick}
 use Rattle.og_csubset.specs.declared.CTest.{CTest}
@@ -20,13 +16,13 @@ use Rattle.og_csubset.specs.declared.COp.{COp}
 use Rattle.og_csubset.specs.declared.COp.TheVariants.{Add, Sub, Mul, Div, Rem}
 use Rattle.og_csubset.specs.declared.CRel.{CRel}
 use Rattle.og_csubset.specs.Tokens.{Token, name, number, operator, relation, keyword, mark, Keyword, typedef_, struct_, void_, if_, goto_, switch_, case_, default_, return_, int64_t, INT64_C, Mark, open_brace, close_brace, open_square, close_square, open_round, close_round, semicolon, colon, question, dot, equals}
-use Rattle.og_csubset.specs.Spelling.{word, least, literal, least_text, is_sum, is_product, IsSum, sum, SumGoesOn, sum_ends, add, IsProduct, product, ProductGoesOn, product_ends, multiply, IsSigned, positive, negative, minus_zero, unsigned, minus, IsOperand, read, bracket, pick, least_number, IsTest, test, IsPlace, place, IsPath, path_ends, member, index, Each, none, one_more, IsConstant, constant, negative_constant, least_constant, IsCase, case_goto, IsStatement, assign, if_goto, goto, label, switch, call, return, IsType, number_type, struct_type, IsMember, single, array, IsStruct, structure, IsGlobal, global, IsEvent, event, IsFunction, function, IsProgram, program}
+use Rattle.og_csubset.specs.Spelling.{word, least, literal, least_text, is_sum, is_product, IsSum, IsProduct, IsSigned, positive, negative, minus_zero, unsigned, minus, IsOperand, read, bracket, pick, least_number, IsTest, test, place, IsPath, path_ends, member, index, Each, none, one_more, IsConstant, constant, negative_constant, least_constant, IsCase, case_goto, IsStatement, assign, if_goto, goto, label, switch, call, return, IsType, number_type, struct_type, IsMember, single, array, IsStruct, structure, IsGlobal, global, IsEvent, event, IsFunction, function, IsProgram, program}
 use Rattle.og_csubset.proofs.Reading.{Found, least_at, mark_number, keyword_number, number_at, sum_at, negated}
 use Rattle.og_csubset.proofs.Seen.{Some-same, seen_least, least_missed, same_mark_number, same_keyword_number}
-use Rattle.og_csubset.proofs.Complete.{sum_complete, least_sum, sum_shrinks, signed_shrinks, path_shrinks, case_shrinks, statement_shrinks, member_shrinks, struct_shrinks, global_shrinks, event_shrinks, function_shrinks}
+use Rattle.og_csubset.proofs.Complete.{sum_complete, least_sum, sum_shrinks, signed_shrinks, case_shrinks, statement_shrinks, member_shrinks, struct_shrinks, global_shrinks, function_shrinks}
 use Rattle.og_csubset.proofs.Sound.{on}
 use Rattle.og_csubset.proofs.PlainSpelt.{to_product, to_sum, sum_on, product_on}
-use Rattle.og_csubset.proofs.Recognizer.{Symbol, Symbols, a_keyword, a_mark, a_sign, a_name, a_number, this_number, a_size, a_relation, a_sum, more, an_operand, a_path, bracket_rest, a_constant, cases, named_rest, statements, member_rest, a_member, members, structs, globals, head_rest, declarations, functions, step, step_on, and_goes_on, accepts, may_end, program_symbols, literal_rest, least_rest, jump_rest, value_rest, head, body}
+use Rattle.og_csubset.proofs.Recognizer.{Symbol, Symbols, a_keyword, a_mark, a_sign, a_name, a_number, this_number, a_size, a_relation, a_sum, more, an_operand, a_path, bracket_rest, a_constant, cases, named_rest, statements, member_rest, a_member, members, structs, globals, head_rest, declarations, functions, step, step_on, and_goes_on, accepts, program_symbols, literal_rest, least_rest, jump_rest, head}
 
 no : {C : Type 0} → ◌≡◌ {A = Bool} false true → C
 no h = absurd (true≢false (sym h))
@@ -115,6 +111,7 @@ bracket_of e ts us p = go (least_at ts) refl
     tail : List Token → List Token
     tail [] = []
     tail (v ∷ vs) = vs
+
     go : (o : Found CExpr) → least_at ts ≡ o → (x : CExpr) × IsOperand x (mark open_round ∷ ts) us
     go None k = (e, bracket p (least_missed ts k))
     go (Some q) k =
@@ -122,9 +119,9 @@ bracket_of e ts us p = go (least_at ts) refl
         let d = length ts in
         let mine : sum_at (number_at d) (suc (suc d)) ts ≡ Some (e, mark close_round ∷ us) = sum_complete p d (suc (suc d)) refl (omega arith) (omega arith) in
         let its : sum_at (number_at d) (suc (suc d)) ts ≡ Some (Op Sub (Number (negsuc (2 ^ 63 - 2))) (Number (pos 1)), mark close_round ∷ q.1) =
-            ap (λ l. sum_at (number_at d) (suc (suc d)) (tail l)) text ∙ least_sum d d q.1 in
+        ap (λ l. sum_at (number_at d) (suc (suc d)) (tail l)) text ∙ least_sum d d q.1 in
         let same : us ≡ q.1 =
-            ap (λ r. tail r.1) (Some-same (e, mark close_round ∷ us) (Op Sub (Number (negsuc (2 ^ 63 - 2))) (Number (pos 1)), mark close_round ∷ q.1) (sym mine ∙ its)) in
+        ap (λ r. tail r.1) (Some-same (e, mark close_round ∷ us) (Op Sub (Number (negsuc (2 ^ 63 - 2))) (Number (pos 1)), mark close_round ∷ q.1) (sym mine ∙ its)) in
         (Number least, subst (λ l. IsOperand (Number least) l us) (sym (text ∙ ap least_text (sym same))) least_number)
 
 abbrev SumIn : Symbols → List Token → Type 0
@@ -185,9 +182,12 @@ pick_below n b S a op ts us fits p h =
     let r' = mark_in colon (a_sum ∷ a_mark close_round ∷ S) r.1 r.3 in
     let second : length r'.0 ≤ n = omega (arith, first, sum_shrinks r.2, ap (λ l. length l) r'.1) in
     let s = sum_below n b (a_mark close_round ∷ S) r'.0 second r'.2 in
-    let s' = mark_in close_round S s.1 s.3 in
-    (Pick (record { op = op; left = a; right = q.0 }) r.0 s.0, s'.0,
-        pick (test p (subst (λ l. IsSum q.0 us l) q'.1 q.2)) (subst (λ l. IsSum r.0 q'.0 l) r'.1 r.2) (subst (λ l. IsSum s.0 r'.0 l) s'.1 s.2), s'.2)
+    let s' = mark_in close_round S s.1 s.3 in (
+      Pick (record { op = op; left = a; right = q.0 }) r.0 s.0,
+      s'.0,
+      pick (test p (subst (λ l. IsSum q.0 us l) q'.1 q.2)) (subst (λ l. IsSum r.0 q'.0 l) r'.1 r.2) (subst (λ l. IsSum s.0 r'.0 l) s'.1 s.2),
+      s'.2,
+    )
 
 bracket_below : (n : ℕ) → Below n → (S : Symbols) (a : CExpr) (ts us : List Token) → length us ≤ n → IsSum a ts us → accepts (bracket_rest ∷ S) us ≡ true
     → OperandIn S (mark open_round ∷ ts)
@@ -287,9 +287,11 @@ below_none = record { signed = signed_none; path = path_none; rest = rest_none }
     signed_none : (S : Symbols) (ts : List Token) → length ts ≤ 0 → accepts (a_sum ∷ S) ts ≡ true → SignedIn S ts
     signed_none S [] fits h = no h
     signed_none S (u ∷ us) fits h = absurd (omega (arith, fits))
+
     path_none : (S : Symbols) (ts : List Token) → length ts ≤ 0 → accepts (a_path ∷ S) ts ≡ true → PathIn S ts
     path_none S [] fits h = ([], [], path_ends, h)
     path_none S (u ∷ us) fits h = absurd (omega (arith, fits))
+
     rest_none : (S : Symbols) (start ts : List Token) → Partial start ts → length ts ≤ 0 → accepts (more ∷ S) ts ≡ true → SumIn S start
     rest_none S start [] p fits h = ended S start [] p h
     rest_none S start (u ∷ us) p fits h = absurd (omega (arith, fits))
@@ -348,15 +350,15 @@ constant_in S (_ ∷ ts) h = no h
 module _ {A : Type 0} (Is : A → List Token → List Token → Type 0) (X : Symbol)
     (shrinks : (x : A) (ts rest : List Token) → Is x ts rest → length rest < length ts)
     (one : (S : Symbols) (ts : List Token) → accepts (X ∷ S) ts ≡ true
-        → (accepts S ts ≡ true) ⊎ ((x : A) × (us : List Token) × Is x ts us × (accepts (X ∷ S) us ≡ true))) where
+    → (accepts S ts ≡ true) ⊎ ((x : A) × (us : List Token) × Is x ts us × (accepts (X ∷ S) us ≡ true))) where
   each_in : (n : ℕ) (S : Symbols) (ts : List Token) → length ts ≤ n → accepts (X ∷ S) ts ≡ true
       → (xs : List A) × (us : List Token) × Each Is xs ts us × (accepts S us ≡ true)
   each_in zero S ts fits h = ⊎_elim (λ stop. ([], ts, none, stop)) (λ p. absurd (omega (arith, fits, shrinks p.0 ts p.1 p.2))) (one S ts h)
   each_in (suc n) S ts fits h =
       ⊎_elim (λ stop. ([], ts, none, stop))
-          (λ p. let others = each_in n S p.1 (omega (arith, fits, shrinks p.0 ts p.1 p.2)) p.3 in
-              (p.0 ∷ others.0, others.1, one_more p.2 others.2, others.3))
-          (one S ts h)
+      (λ p. let others = each_in n S p.1 (omega (arith, fits, shrinks p.0 ts p.1 p.2)) p.3 in
+      (p.0 ∷ others.0, others.1, one_more p.2 others.2, others.3))
+      (one S ts h)
 
 -- one text before others of its kind
 abbrev OneIn : {A : Type 0} → (A → List Token → List Token → Type 0) → Symbols → List Token → Type 0
@@ -381,9 +383,12 @@ assign_in : (S : Symbols) (w : List ℕ) (steps : List CStep) (ts us : List Toke
 assign_in S w steps ts us p h =
     let a = mark_in equals (a_sum ∷ a_mark semicolon ∷ S) us h in
     let b = sum_in (a_mark semicolon ∷ S) a.0 a.2 in
-    let c = mark_in semicolon S b.1 b.3 in
-    (Assign (record { name = word w; path = steps }) b.0, c.0,
-        assign (place (subst (λ l. IsPath steps ts l) a.1 p)) (subst (λ l. IsSum b.0 a.0 l) c.1 b.2), c.2)
+    let c = mark_in semicolon S b.1 b.3 in (
+      Assign (record { name = word w; path = steps }) b.0,
+      c.0,
+      assign (place (subst (λ l. IsPath steps ts l) a.1 p)) (subst (λ l. IsSum b.0 a.0 l) c.1 b.2),
+      c.2,
+    )
 
 named_in : (S : Symbols) (w : List ℕ) (ts : List Token) → accepts (named_rest ∷ S) ts ≡ true → OneIn IsStatement S (name w ∷ ts)
 named_in S w [] h = no h
@@ -415,14 +420,17 @@ if_in S ts h =
     let f = keyword_in goto_ (jump_rest S) e.0 e.2 in
     let g = jump_in S f.0 f.2 in
     let t : CTest = record { op = c.0; left = b.0; right = d.0 } in
-    let is : IsTest t a.0 d.1 = test (subst (λ l. IsSum b.0 a.0 l) c.2 b.2) d.2 in
-    (IfGoto t (word g.0), g.1,
-        subst (λ l. IsStatement (IfGoto t (word g.0)) (keyword if_ ∷ l) g.1) (sym a.1)
-            (if_goto (subst (λ l. IsTest t a.0 l) (e.1 ∙ on _ (f.1 ∙ on _ g.2)) is)), g.3)
+    let is : IsTest t a.0 d.1 = test (subst (λ l. IsSum b.0 a.0 l) c.2 b.2) d.2 in (
+      IfGoto t (word g.0),
+      g.1,
+      subst (λ l. IsStatement (IfGoto t (word g.0)) (keyword if_ ∷ l) g.1) (sym a.1)
+          (if_goto (subst (λ l. IsTest t a.0 l) (e.1 ∙ on _ (f.1 ∙ on _ g.2)) is)),
+      g.3,
+    )
 
 switch_in : (S : Symbols) (ts : List Token)
     → accepts (a_mark open_round ∷ a_sum ∷ a_mark close_round ∷ a_mark open_brace ∷ cases ∷ a_keyword default_ ∷ a_mark colon
-        ∷ a_keyword goto_ ∷ jump_rest (a_mark close_brace ∷ S)) ts ≡ true
+    ∷ a_keyword goto_ ∷ jump_rest (a_mark close_brace ∷ S)) ts ≡ true
     → OneIn IsStatement S (keyword switch_ ∷ ts)
 switch_in S ts h =
     let a = mark_in open_round _ ts h in
@@ -434,11 +442,14 @@ switch_in S ts h =
     let g = mark_in colon _ f.0 f.2 in
     let i = keyword_in goto_ _ g.0 g.2 in
     let j = jump_in (a_mark close_brace ∷ S) i.0 i.2 in
-    let k = mark_in close_brace S j.1 j.3 in
-    (Switch b.0 e.0 (word j.0), k.0,
-        subst (λ l. IsStatement (Switch b.0 e.0 (word j.0)) (keyword switch_ ∷ l) k.0) (sym a.1)
-            (switch (subst (λ l. IsSum b.0 a.0 l) (c.1 ∙ on _ d.1) b.2)
-                (subst (λ l. Each IsCase e.0 d.0 l) (f.1 ∙ on _ (g.1 ∙ on _ (i.1 ∙ on _ (j.2 ∙ on _ (on _ k.1))))) e.2)), k.2)
+    let k = mark_in close_brace S j.1 j.3 in (
+      Switch b.0 e.0 (word j.0),
+      k.0,
+      subst (λ l. IsStatement (Switch b.0 e.0 (word j.0)) (keyword switch_ ∷ l) k.0) (sym a.1)
+          (switch (subst (λ l. IsSum b.0 a.0 l) (c.1 ∙ on _ d.1) b.2)
+          (subst (λ l. Each IsCase e.0 d.0 l) (f.1 ∙ on _ (g.1 ∙ on _ (i.1 ∙ on _ (j.2 ∙ on _ (on _ k.1))))) e.2)),
+      k.2,
+    )
 
 one_statement : (S : Symbols) (ts : List Token) → accepts (statements ∷ S) ts ≡ true → (accepts S ts ≡ true) ⊎ OneIn IsStatement (statements ∷ S) ts
 one_statement S [] h = inl h
@@ -466,9 +477,12 @@ member_rest_in S kind m ts (mark semicolon ∷ us) p h = (record { kind = kind; 
 member_rest_in S kind m ts (mark open_square ∷ us) p h =
     let a = size_in (a_mark close_square ∷ a_mark semicolon ∷ S) us h in
     let b = mark_in close_square (a_mark semicolon ∷ S) a.1 a.5 in
-    let c = mark_in semicolon S b.0 b.2 in
-    (record { kind = kind; name = word m; size = Some a.0 }, c.0,
-        array a.3 a.4 (subst (λ l. IsType kind ts (name m ∷ l)) (on _ (a.2 ∙ on _ (b.1 ∙ on _ c.1))) p), c.2)
+    let c = mark_in semicolon S b.0 b.2 in (
+      record { kind = kind; name = word m; size = Some a.0 },
+      c.0,
+      array a.3 a.4 (subst (λ l. IsType kind ts (name m ∷ l)) (on _ (a.2 ∙ on _ (b.1 ∙ on _ c.1))) p),
+      c.2,
+    )
 member_rest_in S kind m ts (mark _ ∷ us) p h = no h
 member_rest_in S kind m ts (_ ∷ us) p h = no h
 
@@ -500,9 +514,13 @@ struct_in S ts h =
     let d = each_in IsMember members member_shrinks one_member (length c.1) (a_mark close_brace ∷ jump_rest S) c.1 (omega arith) c.3 in
     let e = mark_in close_brace (jump_rest S) d.1 d.3 in
     let f = jump_in S e.0 e.2 in
-    let s : CStruct = record { name = word f.0; members = c.0 ∷ d.0 } in
-    (s, f.1, subst (λ l. IsStruct s (keyword typedef_ ∷ l) f.1) (sym (a.1 ∙ on _ b.1))
-        (structure (subst (λ l. Each IsMember (c.0 ∷ d.0) b.0 l) (e.1 ∙ on _ f.2) (one_more c.2 d.2))), f.3)
+    let s : CStruct = record { name = word f.0; members = c.0 ∷ d.0 } in (
+      s,
+      f.1,
+      subst (λ l. IsStruct s (keyword typedef_ ∷ l) f.1) (sym (a.1 ∙ on _ b.1))
+          (structure (subst (λ l. Each IsMember (c.0 ∷ d.0) b.0 l) (e.1 ∙ on _ f.2) (one_more c.2 d.2))),
+      f.3,
+    )
 
 one_struct : (S : Symbols) (ts : List Token) → accepts (structs ∷ S) ts ≡ true → (accepts S ts ≡ true) ⊎ OneIn IsStruct (structs ∷ S) ts
 one_struct S [] h = inl h
@@ -547,6 +565,7 @@ one_function S (keyword void_ ∷ ts) h = inr (body_in (functions ∷ S) a.0 ts 
     a : (w : List ℕ) × (us : List Token) × (ts ≡ name w ∷ mark open_round ∷ keyword void_ ∷ mark close_round ∷ us)
         × (accepts (a_mark open_brace ∷ statements ∷ a_mark close_brace ∷ functions ∷ S) us ≡ true)
     a = head_in (a_mark open_brace ∷ statements ∷ a_mark close_brace ∷ functions ∷ S) ts h
+
     b : (us : List Token) × (a.1 ≡ mark open_brace ∷ us) × (accepts (statements ∷ a_mark close_brace ∷ functions ∷ S) us ≡ true)
     b = mark_in open_brace (statements ∷ a_mark close_brace ∷ functions ∷ S) a.1 a.3
 one_function S (keyword _ ∷ ts) h = inl h

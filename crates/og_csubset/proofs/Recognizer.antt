@@ -1,8 +1,7 @@
 -- A recognizer of programs, one token after the other: a stack of what is still to come. It needs no tree, and no levels of
 -- operators, since those change the tree alone. It tells the first token that no program goes on with.
-use Rattle.std.proofs.Common.{◌≡◌, ℕ, zero, suc, ◌+◌, ◌-◌, ◌^◌, ◌<◌, ◌≤◌, Bool, true, false, cond, ◌&&◌, List, [], ◌∷◌, ◌++◌, ◌==◌, nat_lt, nat_le, Option, Some, None}
-use Rattle.og_csubset.specs.declared.COp.{COp}
-use Rattle.og_csubset.specs.declared.COp.TheVariants.{Add, Sub, Mul, Div, Rem}
+use Rattle.std.proofs.Common.{ℕ, ◌-◌, ◌^◌, Bool, true, false, cond, ◌&&◌, List, [], ◌∷◌, ◌++◌, ◌==◌, nat_lt, nat_le, Option, Some, None}
+use Rattle.og_csubset.specs.declared.COp.TheVariants.{Sub}
 use Rattle.og_csubset.specs.Tokens.{Token, name, number, operator, relation, keyword, mark, Keyword, typedef_, struct_, void_, if_, goto_, switch_, case_, default_, return_, int64_t, INT64_C, Mark, open_brace, close_brace, open_square, close_square, open_round, close_round, semicolon, colon, question, dot, equals}
 use Rattle.og_csubset.proofs.Reading.{mark_number, keyword_number}
 
@@ -149,7 +148,7 @@ next_statements (keyword if_) =
     Some (a_mark open_round ∷ a_sum ∷ a_relation ∷ a_sum ∷ a_mark close_round ∷ a_keyword goto_ ∷ jump_rest (statements ∷ []))
 next_statements (keyword switch_) =
     Some (a_mark open_round ∷ a_sum ∷ a_mark close_round ∷ a_mark open_brace ∷ cases ∷ a_keyword default_ ∷ a_mark colon
-        ∷ a_keyword goto_ ∷ jump_rest (a_mark close_brace ∷ statements ∷ []))
+    ∷ a_keyword goto_ ∷ jump_rest (a_mark close_brace ∷ statements ∷ []))
 next_statements (keyword return_) = Some (a_mark semicolon ∷ statements ∷ [])
 next_statements _ = None
 

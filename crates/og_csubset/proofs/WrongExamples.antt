@@ -1,10 +1,10 @@
 -- Where some texts go wrong, by computing what the recognizer tells.
-use Rattle.std.proofs.Common.{◌≡◌, ℕ, List, [], ◌∷◌, ◌++◌, codes, Option, Some, None, ◌⊎◌, inl, inr, refl, sym, ap, ◌∙◌, subst}
+use Rattle.std.proofs.Common.{◌≡◌, ℕ, List, [], ◌∷◌, ◌++◌, codes, Option, Some, None, ◌⊎◌, inl, inr, refl, subst}
 use Rattle.std.specs.Fmt.{digits}
 use Rattle.og_csubset.specs.declared.CProgram.{CProgram}
 use Rattle.og_csubset.specs.Spelling.{CSpells}
 use Rattle.og_csubset.specs.Wrong.{GoesWrong}
-use Rattle.og_csubset.specs.Refusals.{GoesWrongAt, place_behind}
+use Rattle.og_csubset.specs.Refusals.{GoesWrongAt}
 use Rattle.og_csubset.specs.Texts.{lines, statements_text}
 use Rattle.og_csubset.proofs.Lexing.{cut, keyword_of, word_token, number_token, sign_token, first_token, next_token}
 use Rattle.og_csubset.proofs.Lexed.{begins-next}

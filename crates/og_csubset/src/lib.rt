@@ -6,12 +6,22 @@ mod run_examples;
 mod run_laws;
 mod spelling_laws;
 
-use og_names::Word;
-pub use spelling_laws::{brackets, least_number, nesting_counts, one_answer, one_deep_place, one_list_of_tokens, one_program, one_wrong_place, plain_text_of_each, refused, signs, white_space, whole_text, wrong_places};
-use sqlite_items::{Boxed, Items};
 pub use flat_examples::flat_code_runs;
-pub use run_examples::{hand_written_text_runs, load_rules_are_reported, single_statements_compute};
-pub use run_laws::{agreeing_programs_show_the_same, code_within_64_bits, ended_program_stays, larger_models_show_the_same, more_instructions_go_on, more_statements_go_on, statements_split, values_of_parts};
+use og_names::Word;
+pub use run_examples::{
+    hand_written_text_runs, load_rules_are_reported, single_statements_compute,
+};
+pub use run_laws::{
+    agreeing_programs_show_the_same, code_within_64_bits, ended_program_stays,
+    larger_models_show_the_same, more_instructions_go_on, more_statements_go_on, statements_split,
+    values_of_parts,
+};
+pub use spelling_laws::{
+    brackets, least_number, nesting_counts, one_answer, one_deep_place, one_list_of_tokens,
+    one_program, one_wrong_place, plain_text_of_each, refused, signs, white_space, whole_text,
+    wrong_places,
+};
+use sqlite_items::{Boxed, Items};
 
 /// A program: structs, then globals, then the events that it may show, then functions.
 #[derive(Drop)]
