@@ -1,16 +1,16 @@
 -- Flat code that is never stuck with the numbers of 64 bits shows the same with all numbers.
-use Rattle.std.proofs.Common.{◌≡◌, ℕ, ◌+◌, Bool, true, false, ◌||◌, List, [], ◌∷◌, ◌⊎◌, inl, inr, Option, refl, sym, ap, ◌∙◌}
+use Rattle.std.proofs.Common.{◌≡◌, ℕ, true, false, List, [], ◌∷◌, inl, inr, Option, refl, sym, ap, ◌∙◌}
 use Rattle.std.proofs.lemmas.Bool.{false≢true}
 use Rattle.og_model.specs.declared.Model.{Model}
 use Rattle.og_model.specs.Shown.{Event, End, Rest, Fault, Stopped, Past, Stuck, Shown, Stimulus, has_stuck}
 use Rattle.og_ir.specs.declared.Ir.{Ir}
 use Rattle.og_ir.specs.Cells.{Cells}
-use Rattle.og_ir.specs.Arithmetic.{Trouble, Overflow, in_64_bits, any_number}
+use Rattle.og_ir.specs.Arithmetic.{Overflow, in_64_bits, any_number}
 use Rattle.og_ir.specs.Steps.{Config, Running, Over, Broken, Ran, exec}
 use Rattle.og_ir.specs.FlatSteps.{first_slots}
 use Rattle.og_ir.proofs.Bounded.{UnderRun, under_run}
-use Rattle.og_csubset.specs.Run.{Machine, goes_on, shown_by, shown_of, runs, all_stimuli, begun}
-use Rattle.og_csubset.specs.FlatRun.{flat_event, flat_machine, flat_runs, flat_function_names, slot_names, flat, flat_in_64_bits}
+use Rattle.og_csubset.specs.Run.{goes_on, shown_by, shown_of, runs, all_stimuli}
+use Rattle.og_csubset.specs.FlatRun.{flat_event, flat_machine, flat, flat_in_64_bits}
 
 -- what goes on is the same where nothing is stuck
 same_on : (end : End) (events : List Event) (more other : List Shown) → (has_stuck more ≡ false → other ≡ more) → has_stuck (record { events = events; end = end } ∷ goes_on end more []) ≡ false → goes_on end other [] ≡ goes_on end more []

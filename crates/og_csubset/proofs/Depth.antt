@@ -1,5 +1,5 @@
 -- How deep an expression goes does not matter: its value is made of the values of its parts.
-use Rattle.std.proofs.Common.{◌≡◌, ℕ, zero, suc, ◌+◌, ◌≤◌, max, ℤ, List, [], ◌∷◌, Bool, true, false, cond, ◌&&◌, Option, Some, None, Result, Ok, Err, refl, sym, ap, ◌∙◌, arith}
+use Rattle.std.proofs.Common.{◌≡◌, ℕ, zero, suc, ◌+◌, ◌≤◌, max, ℤ, List, [], ◌∷◌, Bool, true, false, cond, ◌&&◌, Option, Some, None, Result, Ok, Err, refl, ap, ◌∙◌, arith}
 use Rattle.og_csubset.specs.declared.CProgram.{CProgram}
 use Rattle.og_csubset.specs.declared.CStruct.{CStruct}
 use Rattle.og_csubset.specs.declared.CPlace.{CPlace, size-CPlace, size_is-CPlace}
@@ -10,7 +10,6 @@ use Rattle.og_csubset.specs.declared.CExpr.TheOpen.{CExpr-F, Number, Read, Minus
 use Rattle.og_csubset.specs.declared.CExpr.TheBlock.{weighs-CExpr, the_members, the_sigs, the_carrier, the_depth}
 use Rattle.og_csubset.specs.declared.CTest.{CTest, size-CTest, size_is-CTest}
 use Rattle.og_csubset.specs.declared.CExpr.TheViews.{deep-At}
-use Rattle.og_csubset.specs.declared.CType.{CType}
 use Rattle.og_ir.specs.Cells.{Cells}
 use Rattle.og_ir.specs.Cells as cells
 use Rattle.og_ir.specs.Arithmetic.{Trouble, Value, Index, ◌>>=◌, or_else}
@@ -117,8 +116,8 @@ value_is program globals e =
     let parts = depth_of_parts (out-CExpr e) in
     ap (λ d. value_within d program globals e) deep
     ∙ value_by_same (value_within parts program globals) (λ part. value_within (size-CExpr part) program globals part) parts
-      (λ part below. value_within_same parts (size-CExpr part) program globals part below (omega arith))
-      program globals (out-CExpr e) (omega arith)
+    (λ part below. value_within_same parts (size-CExpr part) program globals part below (omega arith))
+    program globals (out-CExpr e) (omega arith)
 
 -- ---- the same of being a number
 
@@ -172,5 +171,5 @@ is_number_is program e =
     let parts = depth_of_parts (out-CExpr e) in
     ap (λ d. number_within d program e) deep
     ∙ number_by_same (number_within parts program) (λ part. number_within (size-CExpr part) program part) parts
-      (λ part below. number_within_same parts (size-CExpr part) program part below (omega arith))
-      program (out-CExpr e) (omega arith)
+    (λ part below. number_within_same parts (size-CExpr part) program part below (omega arith))
+    program (out-CExpr e) (omega arith)

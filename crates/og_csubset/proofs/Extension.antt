@@ -1,13 +1,11 @@
 -- A program of a model that has more variables is one of the model without them.
-use Rattle.std.proofs.Common.{◌≡◌, ℕ, zero, suc, ◌+◌, ℤ, pos, negsuc, List, [], ◌∷◌, ◌++◌, Bool, true, false, cond, not, ◌&&◌, ◌||◌, Option, Some, None, map, length, take, slice_get, refl, sym, ap, subst, ◌∙◌, arith}
+use Rattle.std.proofs.Common.{◌≡◌, ℕ, zero, suc, List, [], ◌∷◌, ◌++◌, Bool, true, false, cond, not, ◌&&◌, ◌||◌, Option, Some, None, map, length, slice_get, refl, sym, ap, ◌∙◌}
 use Rattle.std.specs.Prelude.{flat_map, codes}
 use Rattle.std.specs.List.{list_all, AllByRecursion}
 use Rattle.std.proofs.lemmas.Bool.{false≢true}
-use Rattle.std.proofs.lemmas.List.{map-append, length-map}
+use Rattle.std.proofs.lemmas.List.{map-append}
 use Rattle.std.proofs.lemmas.List.Folds.{list_all-append}
 use Rattle.og_names.specs.declared.NameId.{NameId}
-use Rattle.og_types.specs.declared.TypeId.{TypeId}
-use Rattle.og_types.specs.declared.Value.{Value}
 use Rattle.og_model.specs.declared.Model.{Model}
 use Rattle.og_model.specs.declared.Signal.{Signal}
 use Rattle.og_model.specs.declared.Variable.{Variable}
@@ -15,7 +13,7 @@ use Rattle.og_model.specs.declared.Region.{Region}
 use Rattle.og_model.specs.declared.EventId.{EventId}
 use Rattle.og_model.specs.declared.EventId.TheVariants as event
 use Rattle.og_model.specs.Regions.{regions}
-use Rattle.og_csubset.specs.Interface.{Shape, Number, Typed, Field, name_of, name_if, numbers_below, signal_id, signal_name, sorts_of, signal_sorts, timer_name, parameters_from, inputs_of, outputs_of, duration_of, start_function, signal_function, timer_function, incoming_from, incoming, functions_of, events_of, event_name, event_globals, variable_field, variable_fields, timer_field, timer_fields, region_field, number_field, stopped_name, kind_name, file_name, line_name, column_name, control_fields, fields_of}
+use Rattle.og_csubset.specs.Interface.{Typed, Field, name_of, name_if, numbers_below, signal_id, signal_name, sorts_of, signal_sorts, timer_name, parameters_from, inputs_of, outputs_of, duration_of, start_function, signal_function, timer_function, incoming_from, incoming, functions_of, events_of, event_name, event_globals, variable_field, variable_fields, timer_field, timer_fields, region_field, number_field, stopped_name, kind_name, file_name, line_name, column_name, control_fields, fields_of}
 use Rattle.og_types.specs.declared.Sort.{Sort}
 use Rattle.og_csubset.specs.declared.CProgram.{CProgram}
 use Rattle.og_csubset.specs.Kinds.{Kind, is_in, event_names, function_names, global_kind}
@@ -23,7 +21,7 @@ use Rattle.og_csubset.specs.Loading.{passes, is_shaped, has_field, is_free, has_
 use Rattle.og_csubset.specs.declared.LoadRule.TheVariants as rule
 use Rattle.std.proofs.lemmas.Option.{none-some}
 use Rattle.og_ir.proofs.ValueCells.{left_of, right_of}
-use Rattle.og_csubset.specs.Extension.{SameName, Extends, end_over, shown_over}
+use Rattle.og_csubset.specs.Extension.{SameName, Extends}
 
 -- equal lists made by functions that agree on the elements
 map_all : {A B : Type 0} (f g : A → B) (xs : List A) → AllByRecursion (λ x. f x ≡ g x) xs → map f xs ≡ map g xs
@@ -62,7 +60,6 @@ id_at M L (id ∷ ids) zero h = h.0
 id_at M L (id ∷ ids) (suc k) h = id_at M L ids k h.1
 
 module _ (M L : Model) (ext : Extends M L) where
-
   signal_names_same : (k : ℕ) → signal_name L k ≡ signal_name M k
   signal_names_same k =
       ap (λ (signals : List Signal). name_if L (signal_id (slice_get signals k))) ext.signals ∙ name_at M L M.signals k ext.signal_names
@@ -110,8 +107,8 @@ module _ (M L : Model) (ext : Extends M L) where
       ap (λ names. start_function ∷ (names ++ map (timer_function L) (numbers_below (length L.timers))))
       (map_same (signal_function L) (signal_function M) signal_functions_same (incoming L) ∙ ap (map (signal_function M)) incoming_same)
       ∙ ap (λ names. start_function ∷ (map (signal_function M) (incoming M) ++ names))
-        (map_same (timer_function L) (timer_function M) timer_functions_same (numbers_below (length L.timers))
-        ∙ ap (λ (ids : List NameId). map (timer_function M) (numbers_below (length ids))) ext.timers)
+      (map_same (timer_function L) (timer_function M) timer_functions_same (numbers_below (length L.timers))
+      ∙ ap (λ (ids : List NameId). map (timer_function M) (numbers_below (length ids))) ext.timers)
 
   pub events_same : events_of L ≡ events_of M
   events_same =
@@ -122,7 +119,7 @@ module _ (M L : Model) (ext : Extends M L) where
   timer_fields_same =
       ap (λ (ids : List NameId). map (timer_field L) ids) ext.timers
       ∙ map_all (timer_field L) (timer_field M) M.timers
-        (all_map (SameName M L) _ (λ id same. ap (λ n. number_field (codes "t_" ++ n)) same) M.timers ext.timer_names)
+      (all_map (SameName M L) _ (λ id same. ap (λ n. number_field (codes "t_" ++ n)) same) M.timers ext.timer_names)
 
   -- the fields of the further variables
   abbrev pub further : List Field
@@ -133,8 +130,8 @@ module _ (M L : Model) (ext : Extends M L) where
       ap (λ (variables : List Variable). map (variable_field L) variables) ext.variables.1
       ∙ map-append (variable_field L) M.variables ext.variables.0
       ∙ ap (λ fields. fields ++ further)
-        (map_all (variable_field L) (variable_field M) M.variables
-        (all_map (λ (v : Variable). SameName M L v.name) _ (λ v same. ap (λ n. let field : Field = record { name = codes "v_" ++ n; shape = Typed v.sort } in field) same) M.variables ext.variable_names))
+      (map_all (variable_field L) (variable_field M) M.variables
+      (all_map (λ (v : Variable). SameName M L v.name) _ (λ v same. ap (λ n. let field : Field = record { name = codes "v_" ++ n; shape = Typed v.sort } in field) same) M.variables ext.variable_names))
 
   pub region_field_same : (r : Region) → AllByRecursion (SameName M L) r.path → region_field L r ≡ region_field M r
   region_field_same r same =
@@ -162,7 +159,7 @@ both_hold : {a b : Bool} → a ≡ true → b ≡ true → (a && b) ≡ true
 both_hold {a} {b} p q = ap (λ t. t && b) p ∙ q
 
 -- a test that does not fail holds
-not_false : (b : Bool) → not b ≡ false → b ≡ true
+pub not_false : (b : Bool) → not b ≡ false → b ≡ true
 not_false true e = refl
 not_false false e = absurd (false≢true (sym e))
 
@@ -186,7 +183,6 @@ all_but F C V X T I h =
     list_all-append F (C ++ V ++ T) I ∙ both_hold second all_I
 
 module _ (P : CProgram) (M L : Model) (ext : Extends M L) where
-
   field_same : (field : Field) → has_field P L field ≡ has_field P M field
   field_same field =
       ap (λ (sorts : List Sort). passes (λ (kind : Kind). is_shaped P.structs sorts field.shape kind.type) (global_kind P field.name)) ext.types
@@ -196,9 +192,9 @@ module _ (P : CProgram) (M L : Model) (ext : Extends M L) where
       ap (λ n. cond (is_in n (event_names P)) (list_all (has_field P L) (event_globals L id)) (is_free P n && list_all (λ field. is_free P field.name || has_field P L field) (event_globals L id))) (event_names_same M L ext id)
       ∙ ap (λ fields. cond (is_in (event_name M id) (event_names P)) (list_all (has_field P L) fields) (is_free P (event_name M id) && list_all (λ field. is_free P field.name || has_field P L field) fields)) (event_globals_same M L ext id)
       ∙ ap (λ b. cond (is_in (event_name M id) (event_names P)) b (is_free P (event_name M id) && list_all (λ field. is_free P field.name || has_field P L field) (event_globals M id)))
-        (list_all_same (has_field P L) (has_field P M) field_same (event_globals M id))
+      (list_all_same (has_field P L) (has_field P M) field_same (event_globals M id))
       ∙ ap (λ b. cond (is_in (event_name M id) (event_names P)) (list_all (has_field P M) (event_globals M id)) (is_free P (event_name M id) && b))
-        (list_all_same _ _ (λ field. ap (λ b. is_free P field.name || b) (field_same field)) (event_globals M id))
+      (list_all_same _ _ (λ field. ap (λ b. is_free P field.name || b) (field_same field)) (event_globals M id))
 
   all_functions : list_all (λ n. is_in n (function_names P)) (functions_of L) ≡ list_all (λ n. is_in n (function_names P)) (functions_of M)
   all_functions = ap (list_all (λ n. is_in n (function_names P))) (functions_same M L ext)
@@ -221,14 +217,13 @@ module _ (P : CProgram) (M L : Model) (ext : Extends M L) where
       let T : List Field = timer_fields M in
       let I : List Field = flat_map (inputs_of M) (incoming M) in
       let whole : list_all F (C ++ (V ++ X) ++ T ++ I) ≡ true =
-          ap (list_all F) (sym
-          (ap (λ fields. fields ++ variable_fields L ++ timer_fields L ++ flat_map (inputs_of L) (incoming L)) (control_same M L ext)
-          ∙ ap (λ fields. C ++ fields ++ timer_fields L ++ flat_map (inputs_of L) (incoming L)) (variable_fields_same M L ext)
-          ∙ ap (λ fields. C ++ (V ++ X) ++ fields ++ flat_map (inputs_of L) (incoming L)) (timer_fields_same M L ext)
-          ∙ ap (λ fields. C ++ (V ++ X) ++ T ++ fields) (all_inputs_same M L ext)))
-          ∙ sym (list_all_same (has_field P L) F field_same (fields_of L)) ∙ h in
+      ap (list_all F) (sym
+      (ap (λ fields. fields ++ variable_fields L ++ timer_fields L ++ flat_map (inputs_of L) (incoming L)) (control_same M L ext)
+      ∙ ap (λ fields. C ++ fields ++ timer_fields L ++ flat_map (inputs_of L) (incoming L)) (variable_fields_same M L ext)
+      ∙ ap (λ fields. C ++ (V ++ X) ++ fields ++ flat_map (inputs_of L) (incoming L)) (timer_fields_same M L ext)
+      ∙ ap (λ fields. C ++ (V ++ X) ++ T ++ fields) (all_inputs_same M L ext)))
+      ∙ sym (list_all_same (has_field P L) F field_same (fields_of L)) ∙ h in
       all_but F C V X T I whole
-
 
   interface_keeps : breaks_K9 P L ≡ false → breaks_K9 P M ≡ false
   interface_keeps h =

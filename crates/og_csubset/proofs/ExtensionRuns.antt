@@ -1,13 +1,11 @@
 -- What a program of a model that has more variables shows over the model without them.
-use Rattle.std.proofs.Common.{◌≡◌, ℕ, zero, suc, ◌+◌, ℤ, pos, negsuc, List, [], ◌∷◌, ◌++◌, Bool, true, false, cond, ◌||◌, Option, Some, None, map, length, take, slice_get, refl, sym, ap, ◌∙◌}
+use Rattle.std.proofs.Common.{◌≡◌, ℕ, zero, suc, ℤ, pos, negsuc, List, [], ◌∷◌, ◌++◌, Bool, true, false, cond, ◌||◌, Option, Some, None, length, take, refl, sym, ap, ◌∙◌}
 use Rattle.std.specs.Prelude.{unwrap_or}
 use Rattle.std.specs.List.{AllByRecursion}
 use Rattle.std.specs.Str.{bytes_eq}
 use Rattle.std.proofs.lemmas.Bool.{false≢true}
 use Rattle.std.proofs.lemmas.List.{length-map}
-use Rattle.og_names.specs.declared.NameId.{NameId}
 use Rattle.og_types.specs.declared.Sort.{Sort}
-use Rattle.og_types.specs.declared.TypeId.{TypeId}
 use Rattle.og_types.specs.declared.Value.{Value}
 use Rattle.og_model.specs.declared.Model.{Model}
 use Rattle.og_model.specs.declared.Region.{Region}
@@ -15,14 +13,14 @@ use Rattle.og_model.specs.declared.EventId.{EventId}
 use Rattle.og_model.specs.declared.EventId.TheVariants as event
 use Rattle.og_model.specs.declared.StuckRule.TheVariants as stuck
 use Rattle.og_model.specs.Regions.{regions}
-use Rattle.og_model.specs.Shown.{Event, Output, Set, Reset, End, Rest, Fault, Stopped, Past, Stuck, Shown, Stimulus, Signal, Expiry, is_stuck, has_stuck}
+use Rattle.og_model.specs.Shown.{Event, Output, Set, End, Rest, Fault, Stopped, Past, Stuck, Shown, Stimulus, Signal, Expiry, is_stuck, has_stuck}
 use Rattle.og_ir.specs.Cells.{Cells, ◌>>=◌}
 use Rattle.og_ir.specs.Reading.{value_in, cells_of, truth_in}
-use Rattle.og_ir.specs.Steps.{Config, Running, Over, Broken, Ran, exec}
-use Rattle.og_ir.proofs.ValueRead.{Bound, bound, same_value}
+use Rattle.og_ir.specs.Steps.{Config, Running, Over, Broken, exec}
+use Rattle.og_ir.proofs.ValueRead.{bound, same_value}
 use Rattle.og_csubset.specs.declared.CProgram.{CProgram}
 use Rattle.og_csubset.specs.Kinds.{place_in, global_names, function_names, first_globals}
-use Rattle.og_csubset.specs.Interface.{Shape, Number, Typed, Field, events_of, event_name, inputs_of, outputs_of, duration_of, signal_function, timer_function, variable_field, variable_fields, timer_fields, region_field, kind_name, stopped_name}
+use Rattle.og_csubset.specs.Interface.{Shape, Number, Typed, Field, events_of, event_name, inputs_of, outputs_of, signal_function, variable_field, variable_fields, region_field, kind_name, stopped_name}
 use Rattle.og_csubset.specs.Reads.{Globals, cells_named, number_named, value_of_shape, value_of_field, all_of, values_of, duration_in, event_shown, event_named, event_of, variables_in, timers_in, active_path, paths_in, kind_numbered, place_of_fault, fault_end, stopped_end, rest_end, end_without_fault, end_by_kind, end_of, put_named, cells_of_shape, inputs_set}
 use Rattle.og_csubset.specs.Step.{cstep}
 use Rattle.og_csubset.specs.Run.{goes_on, shown_by, shown_of, runs, all_stimuli, entered, begun, c_machine, c}
@@ -50,7 +48,6 @@ all_of_front f (x ∷ xs) ys vs h =
     ∙ ap (λ list. Some (take (suc (length xs)) list)) (same_value _ vs more.gives)
 
 module _ (M L : Model) (ext : Extends M L) where
-
   abbrev n : ℕ
   n = length M.variables
 
@@ -105,7 +102,7 @@ module _ (M L : Model) (ext : Extends M L) where
   variables_keep : (g : Globals) (vs : List Value) → variables_in L g ≡ Some vs → variables_in M g ≡ Some (take n vs)
   variables_keep g vs h =
       let all : values_of M g (variable_fields M ++ further M L ext) ≡ Some vs =
-          ap (values_of M g) (sym (variable_fields_same M L ext)) ∙ sym (values_same g (variable_fields L)) ∙ h in
+      ap (values_of M g) (sym (variable_fields_same M L ext)) ∙ sym (values_same g (variable_fields L)) ∙ h in
       all_of_front (value_of_field M g) (variable_fields M) (further M L ext) vs all
       ∙ ap (λ k. Some (take k vs)) (length-map M.variables (variable_field M))
 
@@ -117,7 +114,7 @@ module _ (M L : Model) (ext : Extends M L) where
   paths_by g (r ∷ list) h =
       ap (λ (field : Field). number_named g field.name >>= λ z. active_path r z >>= λ here. paths_in L g list >>= λ others. Some (here ++ others)) (region_field_same M L ext r h.0)
       ∙ bind_on (number_named g ((region_field M r).name)) _ _ (λ z. bind_on (active_path r z) _ _ (λ here.
-        ap (λ o. o >>= λ others. Some (here ++ others)) (paths_by g list h.1)))
+      ap (λ o. o >>= λ others. Some (here ++ others)) (paths_by g list h.1)))
 
   paths_same : (g : Globals) → paths_in L g (regions L) ≡ paths_in M g (regions M)
   paths_same g = ap (paths_in L g) ext.regions_same ∙ paths_by g (regions M) ext.region_names
@@ -174,11 +171,11 @@ module _ (M L : Model) (ext : Extends M L) where
       (λ e h. let k = bound (number_named g kind_name) _ e h in ap (λ o. o >>= end_by_kind M g) k.is ∙ by_kind_keeps g k.value e k.gives)
       free
 
-or_left : (a b : Bool) → (a || b) ≡ false → a ≡ false
+pub or_left : (a b : Bool) → (a || b) ≡ false → a ≡ false
 or_left true b h = h
 or_left false b h = refl
 
-or_right : (a b : Bool) → (a || b) ≡ false → b ≡ false
+pub or_right : (a b : Bool) → (a || b) ≡ false → b ≡ false
 or_right true b h = absurd (false≢true (sym h))
 or_right false b h = h
 
@@ -200,7 +197,6 @@ by_keeps M ending ending' more more' ends h events (Over g) free =
     ∙ ap (λ rest. let entry : Shown = record { events = events; end = end_over (length M.variables) (ending' g) } in entry ∷ rest) (on_keeps M (ending' g) (more g) (more' g) (h g) later)
 
 module _ (P : CProgram) (M L : Model) (ext : Extends M L) where
-
   ran_same : (m : ℕ) (s : Option Stimulus) (cells : List Cells) → exec (c_machine P M).step m ((c_machine P M).begin s cells) ≡ exec (c_machine P L).step m ((c_machine P L).begin s cells)
   ran_same m s cells =
       ap (exec (c_machine P M).step m) (sym (begun_same M L ext (function_names P) (global_names P) s cells))
@@ -215,7 +211,7 @@ module _ (P : CProgram) (M L : Model) (ext : Extends M L) where
       let ran = exec (c_machine P L).step m ((c_machine P L).begin s cells) in
       ap (shown_of (c_machine P M).ending (runs (c_machine P M) m stimuli)) (ran_same m s cells)
       ∙ by_keeps M (c_machine P M).ending (c_machine P L).ending (runs (c_machine P M) m stimuli) (runs (c_machine P L) m stimuli)
-        (end_keeps M L ext (global_names P)) (runs_keep m stimuli) ran.events ran.config free
+      (end_keeps M L ext (global_names P)) (runs_keep m stimuli) ran.events ran.config free
 
   -- the same list over the first variables, where the run is not stuck
   pub c_keeps : (stimuli : List Stimulus) (m : ℕ) → has_stuck (c P L stimuli m) ≡ false → c P M stimuli m ≡ shown_over M (c P L stimuli m)

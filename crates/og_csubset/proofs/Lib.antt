@@ -21,6 +21,8 @@ pub mod PlainSpelt
 pub mod TextLayout
 pub mod WrongPlace
 pub mod WellMade
+pub mod Forms
+pub mod Steady
 pub mod Recognizer
 pub mod Accepted
 pub mod Recognized

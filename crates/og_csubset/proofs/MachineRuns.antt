@@ -1,11 +1,11 @@
 -- Runs over a list of stimuli with more and with fewer steps, for any machine whose ended runs stay.
-use Rattle.std.proofs.Common.{◌≡◌, ℕ, ◌+◌, Bool, true, false, List, [], ◌∷◌, ◌++◌, Option, refl, sym, ap, subst, ◌∙◌, arith}
+use Rattle.std.proofs.Common.{◌≡◌, ℕ, ◌+◌, false, List, [], ◌∷◌, ◌++◌, Option, refl, sym, ap, subst, ◌∙◌}
 use Rattle.std.proofs.lemmas.Bool.{false≢true}
 use Rattle.std.proofs.lemmas.List.{append-nil}
-use Rattle.og_model.specs.Shown.{Event, End, Rest, Fault, Stopped, Past, Stuck, Shown, Stimulus, is_past, has_past, IsFront, BeginsEntry, Begins}
+use Rattle.og_model.specs.Shown.{Event, End, Rest, Fault, Stopped, Past, Stuck, Shown, Stimulus, has_past, BeginsEntry, Begins}
 use Rattle.og_ir.specs.Cells.{Cells}
 use Rattle.og_ir.specs.Arithmetic.{Trouble}
-use Rattle.og_ir.specs.Steps.{Config, Running, Over, Broken, Ran, quiet, joined, and_then, exec}
+use Rattle.og_ir.specs.Steps.{Config, Running, Over, Broken, Ran, quiet, joined, exec}
 use Rattle.og_ir.proofs.Runs.{exec_splits, exec_stays}
 use Rattle.og_csubset.specs.Run.{Machine, goes_on, shown_by, shown_of, runs}
 

@@ -1,5 +1,5 @@
 -- Runs of programs and of flat code with more steps, and two programs that agree with one model.
-use Rattle.std.proofs.Common.{◌≡◌, ℕ, ◌+◌, ◌-◌, ◌≤◌, ℤ, Bool, false, List, Option, refl, sym, ap, ◌∙◌, arith}
+use Rattle.std.proofs.Common.{◌≡◌, ℕ, ◌-◌, ◌≤◌, ℤ, Bool, false, List, refl, sym, ap, ◌∙◌, arith}
 use Rattle.og_model.specs.declared.Model.{Model}
 use Rattle.og_model.specs.Shown.{Stimulus, has_past, Begins}
 use Rattle.og_model.specs.Run.{sdl}

@@ -1,10 +1,8 @@
 -- Programs of the C subset over small models, with what they show, worked out by hand.
-use Rattle.std.specs.Prelude.{◌≡◌, ℕ, ◌-◌, ◌^◌, ℤ, pos, negsuc, List, [], ◌∷◌, ◌++◌, Bool, true, false, Option, Some, None, codes, replicate}
-use Rattle.og_base.specs.declared.Place.{Place}
+use Rattle.std.specs.Prelude.{◌≡◌, ℕ, ◌-◌, ◌^◌, ℤ, pos, negsuc, List, [], ◌∷◌, ◌++◌, true, false, Some, None, codes}
 use Rattle.og_names.specs.declared.NameId.{NameId}
 use Rattle.og_names.specs.declared.Word.{Word}
 use Rattle.og_types.specs.declared.TypeId.{TypeId}
-use Rattle.og_types.specs.declared.Part.{Part}
 use Rattle.og_types.specs.declared.Sort.{Sort}
 use Rattle.og_types.specs.declared.Sort.TheVariants as sort
 use Rattle.og_types.specs.declared.Value.{Value}
@@ -12,7 +10,7 @@ use Rattle.og_types.specs.declared.Value.TheVariants as value
 use Rattle.og_model.specs.declared.Model.{Model}
 use Rattle.og_model.specs.declared.Signal.{Signal}
 use Rattle.og_model.specs.declared.Variable.{Variable}
-use Rattle.og_model.specs.declared.Scope.{Scope, roll-Scope}
+use Rattle.og_model.specs.declared.Scope.{roll-Scope}
 use Rattle.og_model.specs.declared.StateKind.{roll-StateKind}
 use Rattle.og_model.specs.declared.StateKind.TheOpen.{Basic}
 use Rattle.og_model.specs.declared.FaultKind.TheVariants as fault
@@ -22,16 +20,12 @@ use Rattle.og_model.specs.Shown as shown
 use Rattle.og_model.specs.Shown.{Event, Shown, Stimulus, Signal as Sent, Rest, Past, Stuck}
 use Rattle.og_csubset.specs.declared.CProgram.{CProgram}
 use Rattle.og_csubset.specs.declared.CStruct.{CStruct}
-use Rattle.og_csubset.specs.declared.CMember.{CMember}
 use Rattle.og_csubset.specs.declared.CGlobal.{CGlobal}
-use Rattle.og_csubset.specs.declared.CType.{CType}
 use Rattle.og_csubset.specs.declared.CType.TheVariants.{Int64, Struct}
 use Rattle.og_csubset.specs.declared.CFunction.{CFunction}
 use Rattle.og_csubset.specs.declared.CStmt.{CStmt}
-use Rattle.og_csubset.specs.declared.CStmt.TheVariants.{Assign, IfGoto, Goto, Label, Switch, Call, Return}
-use Rattle.og_csubset.specs.declared.CCase.{CCase}
+use Rattle.og_csubset.specs.declared.CStmt.TheVariants.{Assign, Goto, Label, Switch, Call, Return}
 use Rattle.og_csubset.specs.declared.CPlace.{CPlace}
-use Rattle.og_csubset.specs.declared.CStep.{CStep}
 use Rattle.og_csubset.specs.declared.CStep.TheVariants.{Member, At}
 use Rattle.og_csubset.specs.declared.CExpr.{CExpr, roll-CExpr}
 use Rattle.og_csubset.specs.declared.CExpr.TheOpen.{Number, Read, Minus, Op, Pick}
@@ -128,9 +122,9 @@ hand_written = record {
   functions =
       function (codes "start") (assigns (codes "r") (literal (pos 0)) ∷ assigns (codes "k") (literal (pos 0)) ∷ [])
       ∷ function (codes "on_go")
-        (Assign (record { name = word (codes "w"); path = Member (word (codes "e")) ∷ At (read (codes "k")) ∷ [] }) (literal (pos 1))
-        ∷ assigns (codes "k") (operates op.Add (read (codes "k")) (literal (pos 1)))
-        ∷ Call (word (codes "o_done")) ∷ Call (word (codes "o_done")) ∷ [])
+      (Assign (record { name = word (codes "w"); path = Member (word (codes "e")) ∷ At (read (codes "k")) ∷ [] }) (literal (pos 1))
+      ∷ assigns (codes "k") (operates op.Add (read (codes "k")) (literal (pos 1)))
+      ∷ Call (word (codes "o_done")) ∷ Call (word (codes "o_done")) ∷ [])
       ∷ [];
 }
 
@@ -314,8 +308,8 @@ abbrev pub switching : ℕ → List CStmt
 switching n =
     assigns x (int n)
     ∷ Switch (read x)
-      (record { value = pos 1; label = word (codes "a") } ∷ record { value = pos 2; label = word (codes "b") } ∷ [])
-      (word (codes "d"))
+    (record { value = pos 1; label = word (codes "a") } ∷ record { value = pos 2; label = word (codes "b") } ∷ [])
+    (word (codes "d"))
     ∷ Label (word (codes "a")) ∷ assigns x (int 1) ∷ Return
     ∷ Label (word (codes "b")) ∷ assigns x (int 8) ∷ Return
     ∷ Label (word (codes "d")) ∷ assigns x (int 9) ∷ []

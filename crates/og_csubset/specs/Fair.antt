@@ -3,14 +3,12 @@
 -- model's interface, and it is within the limits of the subset.
 use Rattle.std.specs.Prelude.{◌≡◌, ℕ, zero, suc, ◌+◌, ◌≤◌, max, List, [], ◌∷◌, ◌++◌, Bool, true, false, not, if◌then◌else◌, ◌&&◌, ◌||◌, ◌==◌, nat_lt, nat_le, Option, Some, None, map, take, length, slice_get, IsTrue}
 use Rattle.std.specs.List.{list_all, list_any}
-use Rattle.og_types.specs.declared.Part.{Part}
 use Rattle.og_types.specs.declared.Sort.{Sort}
 use Rattle.og_types.specs.declared.Sort.TheVariants as sort
 use Rattle.og_types.specs.declared.TypeId.{TypeId}
 use Rattle.og_model.specs.declared.Model.{Model}
 use Rattle.og_model.specs.declared.EventId.{EventId}
 use Rattle.og_ir.specs.declared.Ir.{Ir}
-use Rattle.og_ir.specs.declared.SlotDef.{SlotDef}
 use Rattle.og_ir.specs.declared.SlotSort.{SlotSort}
 use Rattle.og_ir.specs.declared.SlotSort.TheVariants as slot_sort
 use Rattle.og_ir.specs.declared.FlatFn.{FlatFn}
@@ -22,7 +20,6 @@ use Rattle.og_ir.specs.declared.Step2.TheVariants as step
 use Rattle.og_ir.specs.declared.Flat.{Flat, out-Flat, size-Flat}
 use Rattle.og_ir.specs.declared.Flat.TheOpen as flat
 use Rattle.og_ir.specs.declared.Flat.TheOpen.{Flat-F}
-use Rattle.og_ir.specs.declared.Test.{Test}
 use Rattle.og_ir.specs.declared.Case.{Case}
 use Rattle.og_ir.specs.Cells.{◌>>=◌, count}
 use Rattle.og_ir.specs.Arithmetic.{in_64_bits, is_same}

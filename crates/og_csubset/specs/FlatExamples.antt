@@ -1,5 +1,5 @@
 -- Flat code over a small model, with what it shows, worked out by hand.
-use Rattle.std.specs.Prelude.{◌≡◌, ℕ, ◌-◌, ◌^◌, ℤ, pos, negsuc, List, [], ◌∷◌, ◌++◌, map, codes}
+use Rattle.std.specs.Prelude.{◌≡◌, ℕ, ◌-◌, ◌^◌, ℤ, pos, List, [], ◌∷◌, map, codes}
 use Rattle.og_types.specs.declared.Value.TheVariants as value
 use Rattle.og_model.specs.declared.StuckRule.TheVariants as stuck
 use Rattle.og_model.specs.Shown.{Shown, Past, Stuck}
@@ -8,7 +8,7 @@ use Rattle.og_ir.specs.declared.SlotDef.{SlotDef}
 use Rattle.og_ir.specs.declared.SlotSort.TheVariants as slot_sort
 use Rattle.og_ir.specs.declared.FlatFn.{FlatFn}
 use Rattle.og_ir.specs.declared.Instr.{Instr}
-use Rattle.og_ir.specs.declared.Instr.TheVariants.{Set, Copy, Branch, Goto, Table, Call, Emit, Back}
+use Rattle.og_ir.specs.declared.Instr.TheVariants.{Set, Copy, Branch, Table, Call, Emit, Back}
 use Rattle.og_ir.specs.declared.Slot.{Slot}
 use Rattle.og_ir.specs.declared.Step2.TheVariants as step
 use Rattle.og_ir.specs.declared.Flat.{Flat, roll-Flat}

@@ -1,6 +1,6 @@
 -- What flat code shows over a model. It has the form of a run of a program of the C subset, with one instruction for each
 -- step. The slots are found by their names, as the globals of a program are, and an event by its number in the list of events.
-use Rattle.std.specs.Prelude.{ℕ, ℤ, List, Bool, Option, Some, None, map, slice_get}
+use Rattle.std.specs.Prelude.{ℕ, ℤ, List, Bool, Option, map, slice_get}
 use Rattle.og_model.specs.declared.Model.{Model}
 use Rattle.og_model.specs.Shown.{Event, Shown, Stimulus}
 use Rattle.og_ir.specs.declared.Ir.{Ir}

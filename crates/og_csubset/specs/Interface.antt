@@ -92,7 +92,7 @@ incoming model = incoming_from 0 model.signals
 abbrev pub functions_of : Model → List (List ℕ)
 functions_of model =
     start_function ∷ (map (signal_function model) (incoming model)
-        ++ map (timer_function model) (numbers_below (length model.timers)))
+    ++ map (timer_function model) (numbers_below (length model.timers)))
 
 -- an output for each signal, then for each timer its setting and its resetting
 abbrev pub events_of : Model → List EventId

@@ -6,7 +6,6 @@ use Rattle.std.specs.Str.{bytes_eq}
 use Rattle.og_csubset.specs.declared.CProgram.{CProgram}
 use Rattle.og_csubset.specs.declared.CStruct.{CStruct}
 use Rattle.og_csubset.specs.declared.CMember.{CMember}
-use Rattle.og_csubset.specs.declared.CGlobal.{CGlobal}
 use Rattle.og_csubset.specs.declared.CType.{CType}
 use Rattle.og_csubset.specs.declared.CType.TheVariants.{Int64, Struct}
 use Rattle.og_ir.specs.Cells.{◌>>=◌, Cells, Cell, Empty, row, equal_parts, cells_by}

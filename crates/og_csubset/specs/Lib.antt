@@ -16,4 +16,5 @@ pub mod Texts
 pub mod Plain
 pub mod Extension
 pub mod Wrong
+pub mod Forms
 pub mod Refusals

@@ -17,7 +17,7 @@ use Rattle.og_csubset.specs.declared.CType.{CType}
 use Rattle.og_csubset.specs.declared.CType.TheVariants.{Int64, Struct}
 use Rattle.og_csubset.specs.declared.CFunction.{CFunction}
 use Rattle.og_csubset.specs.declared.CStmt.{CStmt}
-use Rattle.og_csubset.specs.declared.CStmt.TheVariants.{Assign, IfGoto, Goto, Label, Switch, Call, Return}
+use Rattle.og_csubset.specs.declared.CStmt.TheVariants.{Assign, IfGoto, Goto, Label, Switch, Call}
 use Rattle.og_csubset.specs.declared.CCase.{CCase}
 use Rattle.og_csubset.specs.declared.CPlace.{CPlace}
 use Rattle.og_csubset.specs.declared.CStep.{CStep}
@@ -88,7 +88,7 @@ kind_after is_number structs kind (At e ∷ steps) =
 abbrev pub type_by : (CExpr → Bool) → CProgram → CPlace → Option CType
 type_by is_number program place =
     global_kind program place.name.bytes >>= λ kind.
-        kind_after is_number program.structs kind place.path >>= type_of_one
+    kind_after is_number program.structs kind place.path >>= type_of_one
 
 -- the expression is a number, where these parts are
 abbrev pub number_by : (CExpr → Bool) → CProgram → CExpr-F CExpr CStep CPlace CTest → Bool
@@ -263,14 +263,14 @@ has_event program model event =
     if is_in (interface.event_name model event) (event_names program)
     then list_all (has_field program model) (interface.event_globals model event)
     else is_free program (interface.event_name model event)
-        && list_all (λ field. is_free program field.name || has_field program model field) (interface.event_globals model event)
+    && list_all (λ field. is_free program field.name || has_field program model field) (interface.event_globals model event)
 
 abbrev pub breaks_K9 : CProgram → Model → Bool
 breaks_K9 program model =
     not (list_all (λ name. is_in name (function_names program)) (interface.functions_of model)
-        && list_all (has_field program model) (interface.fields_of model)
-        && list_all (has_event program model) (interface.events_of model)
-        && list_all (λ name. is_in name (map (interface.event_name model) (interface.events_of model))) (event_names program))
+    && list_all (has_field program model) (interface.fields_of model)
+    && list_all (has_event program model) (interface.events_of model)
+    && list_all (λ name. is_in name (map (interface.event_name model) (interface.events_of model))) (event_names program))
 
 -- the first rule that is broken
 abbrev pub first_broken : List (Bool × LoadRule) → Option LoadRule

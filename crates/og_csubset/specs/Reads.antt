@@ -1,11 +1,10 @@
 -- What the globals of the interface say: the values of an event's parameters, how a run has ended, and where the inputs of a
 -- stimulus go. The globals go by their names, whether they are those of a program of the C subset or the slots of flat
 -- code. Where a global that is looked at holds no value of its type or range, nothing can be read.
-use Rattle.std.specs.Prelude.{ℕ, zero, suc, ◌^◌, ℤ, pos, negsuc, List, [], ◌∷◌, ◌++◌, Bool, if◌then◌else◌, nat_lt, Option, Some, None, map, slice_get, unwrap_or}
+use Rattle.std.specs.Prelude.{ℕ, zero, suc, ◌^◌, ℤ, pos, negsuc, List, [], ◌∷◌, ◌++◌, Bool, if◌then◌else◌, nat_lt, Option, Some, None, slice_get, unwrap_or}
 use Rattle.std.specs.Str.{bytes_eq}
 use Rattle.og_base.specs.declared.Place.{Place}
 use Rattle.og_names.specs.declared.NameId.{NameId}
-use Rattle.og_types.specs.declared.TypeId.{TypeId}
 use Rattle.og_types.specs.declared.Value.{Value}
 use Rattle.og_types.specs.declared.Value.TheVariants.{Int}
 use Rattle.og_model.specs.declared.Model.{Model}

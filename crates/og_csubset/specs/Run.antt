@@ -5,7 +5,6 @@
 -- statement would do. Nothing follows a fault, Past or a program that is stuck. After STOP a stimulus calls its function as
 -- before.
 use Rattle.std.specs.Prelude.{ℕ, List, [], ◌∷◌, Option, Some, None, map}
-use Rattle.og_types.specs.declared.Value.{Value}
 use Rattle.og_model.specs.declared.Model.{Model}
 use Rattle.og_model.specs.declared.StuckRule.{StuckRule}
 use Rattle.og_model.specs.declared.StuckRule.TheVariants as stuck

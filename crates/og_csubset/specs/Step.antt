@@ -7,7 +7,6 @@ use Rattle.std.specs.Prelude.{option_map}
 use Rattle.std.specs.Str.{bytes_eq}
 use Rattle.og_csubset.specs.declared.CProgram.{CProgram}
 use Rattle.og_csubset.specs.declared.CStruct.{CStruct}
-use Rattle.og_csubset.specs.declared.CFunction.{CFunction}
 use Rattle.og_csubset.specs.declared.CStmt.{CStmt}
 use Rattle.og_csubset.specs.declared.CStmt.TheVariants.{Assign, IfGoto, Goto, Label, Switch, Call, Return}
 use Rattle.og_csubset.specs.declared.CCase.{CCase}
@@ -22,7 +21,7 @@ use Rattle.og_csubset.specs.declared.COp.TheVariants as op
 use Rattle.og_csubset.specs.declared.CRel.{CRel}
 use Rattle.og_csubset.specs.declared.CRel.TheVariants as rel
 use Rattle.og_csubset.specs.Kinds.{Kind, place_in, is_in, global_names, event_names, function_names, member_of, element_of, global_kind}
-use Rattle.og_ir.specs.Cells.{Cells, Cell, number_in, part_at, put_at, global, change_global}
+use Rattle.og_ir.specs.Cells.{Cells, Cell, number_in}
 use Rattle.og_ir.specs.Reading.{below}
 use Rattle.og_ir.specs.Arithmetic.{Trouble, Index, Value, ◌>>=◌, or_else, in_64_bits, sum_of, difference_of, product_of, quotient_of, remainder_of, negative_of, is_same}
 use Rattle.og_ir.specs.Steps.{Frame, Config, Running, Over, Broken, Ran, quiet, with_value, onward, jumped, returned, called, showing}
@@ -151,16 +150,16 @@ call shows program globals frame callers name =
 abbrev pub act : {E : Type 0} → (List ℕ → List Cells → Option E) → CProgram → List CStmt → List Cells → Frame → List Frame → CStmt → Ran E
 act shows program body globals frame callers (Assign place e) =
     with_value (spot_of program globals place) (λ spot.
-        with_value (assigned program globals e (out-CExpr e)) (λ cells.
-            quiet (Running (put globals spot cells) (onward frame) callers)))
+    with_value (assigned program globals e (out-CExpr e)) (λ cells.
+    quiet (Running (put globals spot cells) (onward frame) callers)))
 act shows program body globals frame callers (IfGoto test label) =
     with_value (holds program globals test) (λ b.
-        if b then gone body globals frame callers label.bytes else quiet (Running globals (onward frame) callers))
+    if b then gone body globals frame callers label.bytes else quiet (Running globals (onward frame) callers))
 act shows program body globals frame callers (Goto label) = gone body globals frame callers label.bytes
 act shows program body globals frame callers (Label label) = quiet (Running globals (onward frame) callers)
 act shows program body globals frame callers (Switch e cases otherwise) =
     with_value (value_of program globals e) (λ z.
-        gone body globals frame callers (case_of z cases otherwise.bytes))
+    gone body globals frame callers (case_of z cases otherwise.bytes))
 act shows program body globals frame callers (Call name) = call shows program globals frame callers name.bytes
 act shows program body globals frame callers Return = returned globals callers
 
@@ -174,6 +173,6 @@ fetched shows program body globals frame callers (Some statement) =
 abbrev pub cstep : {E : Type 0} → (List ℕ → List Cells → Option E) → CProgram → Config → Ran E
 cstep shows program (Running globals frame callers) =
     with_value (or_else (slice_get program.functions frame.function) Value) (λ f.
-        fetched shows program f.body globals frame callers (slice_get f.body frame.place))
+    fetched shows program f.body globals frame callers (slice_get f.body frame.place))
 cstep shows program (Over globals) = quiet (Over globals)
 cstep shows program (Broken trouble) = quiet (Broken trouble)

@@ -16,5 +16,4 @@ pub fn flat_code_runs()
     ensures table_takes_the_last { TableTakesTheLast }
     ensures counts_and_leaves_its_type { CountsAndLeavesItsType }
     ensures counting_is_fair { CountingIsFair }
-{
-}
+{}

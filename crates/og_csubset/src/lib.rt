@@ -1,6 +1,7 @@
 //! Programs of the C subset as trees.
 #![tactic(auto)]
 
+mod copy;
 mod flat_examples;
 mod run_examples;
 mod run_laws;
@@ -13,8 +14,8 @@ pub use run_examples::{
 };
 pub use run_laws::{
     agreeing_programs_show_the_same, code_within_64_bits, ended_program_stays,
-    larger_models_show_the_same, more_instructions_go_on, more_statements_go_on, statements_split,
-    values_of_parts,
+    larger_models_show_the_same, loaded_programs_are_steady, more_instructions_go_on,
+    more_statements_go_on, statements_split, values_of_parts,
 };
 pub use spelling_laws::{
     brackets, least_number, nesting_counts, one_answer, one_deep_place, one_list_of_tokens,

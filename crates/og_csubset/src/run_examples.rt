@@ -10,8 +10,7 @@ pub fn hand_written_text_runs()
     ensures cut_at_two { CutAtTwo }
     ensures cut_at_four { CutAtFour }
     ensures cut_at_none { CutAtNone }
-{
-}
+{}
 
 /// Single statements compute, break and end as worked out by hand.
 pub fn single_statements_compute()
@@ -41,8 +40,7 @@ pub fn single_statements_compute()
     ensures no_such_fault { NoSuchFault }
     ensures called_after_stop { CalledAfterStop }
     ensures runs_on { RunsOn }
-{
-}
+{}
 
 /// Programs that break one rule each, and programs that break none.
 pub fn load_rules_are_reported()
@@ -65,5 +63,4 @@ pub fn load_rules_are_reported()
     ensures event_of_any_signal { EventOfAnySignal }
     ensures field_of_another_shape { FieldOfAnotherShape }
     ensures field_not_needed { FieldNotNeeded }
-{
-}
+{}

@@ -1,6 +1,6 @@
 -- Flat code with the numbers of 64 bits does what it does with all numbers, or breaks by a number that is not there.
-use Rattle.std.proofs.Common.{◌≡◌, ℕ, zero, suc, ◌+◌, ℤ, List, [], ◌∷◌, ◌++◌, Bool, true, false, cond, ◌⊎◌, inl, inr, Option, Some, None, Result, Ok, Err, slice_get, refl, sym, ap, subst, ◌∙◌}
-use Rattle.std.specs.Prelude.{int_div, int_rem, ◌+ℤ◌, ◌-ℤ◌, ◌*ℤ◌}
+use Rattle.std.proofs.Common.{◌≡◌, ℕ, zero, suc, ℤ, List, [], ◌∷◌, Bool, true, false, cond, ◌⊎◌, inl, inr, Option, Some, None, Result, Ok, Err, slice_get, refl, sym, ap, subst, ◌∙◌}
+use Rattle.std.specs.Prelude.{int_div, ◌+ℤ◌, ◌-ℤ◌, ◌*ℤ◌}
 use Rattle.og_ir.specs.declared.Ir.{Ir}
 use Rattle.og_ir.specs.declared.Instr.{Instr}
 use Rattle.og_ir.specs.declared.Instr.TheVariants as instr
@@ -12,11 +12,11 @@ use Rattle.og_ir.specs.declared.Flat.TheOpen.{Flat-F, Number, Read, Op}
 use Rattle.og_ir.specs.declared.FlatOp.{FlatOp}
 use Rattle.og_ir.specs.declared.FlatOp.TheVariants as op
 use Rattle.og_ir.specs.declared.Test.{Test}
-use Rattle.og_ir.specs.Cells.{Cells, Cell, part, global}
+use Rattle.og_ir.specs.Cells.{Cells, part, global}
 use Rattle.og_ir.specs.Reading.{natural}
 use Rattle.og_ir.specs.Arithmetic.{Trouble, Overflow, Index, Divide, ◌>>=◌, or_else, in_64_bits, any_number, is_zero, kept, quotient_of}
-use Rattle.og_ir.specs.Steps.{Frame, Config, Running, Over, Broken, Ran, quiet, joined, and_then, exec, with_value, onward, jumped, returned, called, showing}
-use Rattle.og_ir.specs.FlatSteps.{Spot, walk, spot_of, cells_at, put, operation, relation, value_by, value_within, value_of, holds, case_of, act, fetched, flat_step}
+use Rattle.og_ir.specs.Steps.{Frame, Config, Running, Over, Broken, Ran, quiet, joined, and_then, exec, with_value}
+use Rattle.og_ir.specs.FlatSteps.{walk, spot_of, cells_at, operation, value_by, value_within, value_of, holds, act, fetched, flat_step}
 use Rattle.og_ir.proofs.Runs.{exec_stays}
 
 -- the first breaks by a number that is not there, or both are the same
@@ -49,7 +49,6 @@ under_operation op.Rem x y =
     (under_quotient (is_zero y) (in_64_bits (int_div x y)) (int_div x y)) (λ q. inr refl)
 
 module _ (f g : Flat → Result ℤ Trouble) (h : (e : Flat) → Under (f e) (g e)) where
-
   under_walk : (steps : List Step2) (cells : Cells) → Under (walk f steps cells) (walk g steps cells)
   under_walk [] cells = inr refl
   under_walk (step.Field k ∷ steps) cells =

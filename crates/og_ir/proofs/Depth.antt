@@ -1,5 +1,5 @@
 -- How deep an expression of flat code goes does not matter: its value is made of the values of its parts.
-use Rattle.std.proofs.Common.{◌≡◌, ℕ, zero, suc, ◌+◌, ◌≤◌, max, ℤ, List, [], ◌∷◌, Bool, Option, Some, None, Result, Ok, Err, refl, sym, ap, ◌∙◌, arith}
+use Rattle.std.proofs.Common.{◌≡◌, ℕ, zero, suc, ◌+◌, ◌≤◌, max, ℤ, List, [], ◌∷◌, Bool, Result, Ok, Err, refl, ap, ◌∙◌, arith}
 use Rattle.og_ir.specs.declared.Slot.{Slot, size-Slot, size_is-Slot}
 use Rattle.og_ir.specs.declared.Step2.{Step2, size-Step2}
 use Rattle.og_ir.specs.declared.Step2.TheVariants as step
@@ -84,5 +84,5 @@ value_is is_there slots e =
     let parts = depth_of_parts (out-Flat e) in
     ap (λ d. value_within d is_there slots e) deep
     ∙ value_by_same (value_within parts is_there slots) (λ part. value_within (size-Flat part) is_there slots part) parts
-      (λ part below. value_within_same parts (size-Flat part) is_there slots part below (omega arith))
-      is_there slots (out-Flat e) (omega arith)
+    (λ part below. value_within_same parts (size-Flat part) is_there slots part below (omega arith))
+    is_there slots (out-Flat e) (omega arith)

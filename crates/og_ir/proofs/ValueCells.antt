@@ -1,8 +1,8 @@
 -- The cells of a value hold that value.
-use Rattle.std.proofs.Common.{◌≡◌, ℕ, zero, suc, ◌+◌, ◌≤◌, ◌<◌, ℤ, pos, negsuc, List, [], ◌∷◌, Bool, true, false, cond, ◌&&◌, Option, Some, None, length, map, slice_get, refl, sym, ap, ◌∙◌, arith}
+use Rattle.std.proofs.Common.{◌≡◌, ℕ, zero, suc, ◌+◌, ◌≤◌, pos, List, [], ◌∷◌, Bool, true, false, ◌&&◌, Option, Some, None, length, slice_get, refl, sym, ap, ◌∙◌, arith}
 use Rattle.std.proofs.lemmas.Bool.{false≢true, leb-true}
 use Rattle.std.proofs.lemmas.Option.{none-some}
-use Rattle.std.specs.Prelude.{nat_lt, nat_le, int_le, option_map}
+use Rattle.std.specs.Prelude.{nat_le, option_map}
 use Rattle.std.specs.List.{list_all}
 use Rattle.og_types.specs.declared.Part.{Part}
 use Rattle.og_types.specs.declared.Sort.{Sort}
@@ -15,7 +15,7 @@ use Rattle.og_types.specs.declared.Value.TheOpen.{Value-F}
 use Rattle.og_types.specs.declared.Value.TheViews.{rolls-Int, rolls-Bool, rolls-Enumerated, rolls-Sequence, rolls-Choice, rolls-SeqOf}
 use Rattle.og_types.specs.Values.{in_parts, in_part, in_sort, in_within, is_in}
 use Rattle.og_ir.specs.Cells.{◌>>=◌, Cells, Cell, Empty, Both, part, cells_by}
-use Rattle.og_ir.specs.Reading.{only_if, natural, below, truth_in, read_parts, read_items, read_array, read_seq_of, read_sequence, read_choice, read_sort, read_within, value_in, blank_within, write_parts, write_alternatives, write_items, write_sequence, write_seq_of, write_sort, write_within, cells_of}
+use Rattle.og_ir.specs.Reading.{only_if, read_parts, read_items, read_array, read_seq_of, read_sequence, read_choice, read_sort, read_within, value_in, blank_within, write_parts, write_alternatives, write_items, write_sequence, write_seq_of, write_sort, write_within, cells_of}
 
 -- both of two tests that hold together
 pub left_of : (a b : Bool) → (a && b) ≡ true → a ≡ true
@@ -27,7 +27,6 @@ right_of true b h = h
 right_of false b h = absurd (false≢true h)
 
 module _ (read : TypeId → Cells → Option Value) (blank : TypeId → Cells) (write : TypeId → Value → Cells) (inside : TypeId → Value → Bool) (again : (t : TypeId) (v : Value) → inside t v ≡ true → read t (write t v) ≡ Some v) where
-
   parts_again : (parts : List Part) (vs : List Value) → in_parts inside parts vs ≡ true → read_parts read parts (write_parts blank write parts vs) ≡ Some vs
   parts_again [] [] h = refl
   parts_again [] (v ∷ vs) h = absurd (false≢true h)

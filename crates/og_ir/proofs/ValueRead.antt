@@ -1,8 +1,7 @@
 -- A value that is read from cells is in its type.
-use Rattle.std.proofs.Common.{◌≡◌, ℕ, zero, suc, ◌+◌, ℤ, pos, negsuc, List, [], ◌∷◌, Bool, true, false, cond, ◌&&◌, Option, Some, None, length, slice_get, refl, sym, ap, ◌∙◌, arith}
-use Rattle.std.proofs.lemmas.Bool.{false≢true}
+use Rattle.std.proofs.Common.{◌≡◌, ℕ, zero, suc, ◌+◌, List, [], ◌∷◌, Bool, true, ◌&&◌, Option, Some, None, length, slice_get, refl, sym, ap, ◌∙◌, arith}
 use Rattle.std.proofs.lemmas.Option.{none-some, cond_some}
-use Rattle.std.specs.Prelude.{nat_lt, nat_le, int_le, unwrap_or}
+use Rattle.std.specs.Prelude.{nat_lt, nat_le, unwrap_or}
 use Rattle.og_ir.proofs.ValueCells.{left_of, right_of}
 use Rattle.std.specs.List.{list_all}
 use Rattle.og_types.specs.declared.Part.{Part}
@@ -10,9 +9,6 @@ use Rattle.og_types.specs.declared.Sort.{Sort}
 use Rattle.og_types.specs.declared.Sort.TheVariants as sort
 use Rattle.og_types.specs.declared.TypeId.{TypeId}
 use Rattle.og_types.specs.declared.Value.{Value, out-Value}
-use Rattle.og_types.specs.declared.Value.TheVariants as made
-use Rattle.og_types.specs.declared.Value.TheOpen as value
-use Rattle.og_types.specs.declared.Value.TheOpen.{Value-F}
 use Rattle.og_types.specs.declared.Value.TheViews.{outs-Int, outs-Bool, outs-Enumerated, outs-Sequence, outs-Choice, outs-SeqOf}
 use Rattle.og_types.specs.Values.{in_parts, in_part, in_sort, in_within, is_in}
 use Rattle.og_ir.specs.Cells.{◌>>=◌, Cells, Cell, Empty, Both, number_in, part}
@@ -36,7 +32,6 @@ both_true : (a b : Bool) → a ≡ true → b ≡ true → (a && b) ≡ true
 both_true a b p q = ap (λ t. t && b) p ∙ q
 
 module _ (read : TypeId → Cells → Option Value) (inside : TypeId → Value → Bool) (right : (t : TypeId) (cells : Cells) (v : Value) → read t cells ≡ Some v → inside t v ≡ true) where
-
   parts_in : (parts : List Part) (cells : Cells) (vs : List Value) → read_parts read parts cells ≡ Some vs → in_parts inside parts vs ≡ true
   parts_in [] cells vs h = ap (in_parts inside []) (sym (same_value [] vs h))
   parts_in (p ∷ parts) (Cell z) vs h = absurd (none-some vs h)
@@ -81,9 +76,10 @@ module _ (read : TypeId → Cells → Option Value) (inside : TypeId → Value �
   items_in item (suc n) (Both first others) vs h =
       let one = bound (read item first) _ vs h in
       let more = bound (read_items (read item) n others) _ vs one.gives in
-      let rest = items_in item n others more.value more.is in
-      (ap length (sym (same_value _ vs more.gives)) ∙ ap suc rest.0,
-       ap (list_all (inside item)) (sym (same_value _ vs more.gives)) ∙ both_true _ _ (right item first one.value one.is) rest.1)
+      let rest = items_in item n others more.value more.is in (
+        ap length (sym (same_value _ vs more.gives)) ∙ ap suc rest.0,
+        ap (list_all (inside item)) (sym (same_value _ vs more.gives)) ∙ both_true _ _ (right item first one.value one.is) rest.1,
+      )
 
   array_in : (item : TypeId) (n : ℕ) (cells : Cells) (vs : List Value) → read_array (read item) n cells ≡ Some vs → (length vs ≡ n) × (list_all (inside item) vs ≡ true)
   array_in item zero cells vs h =

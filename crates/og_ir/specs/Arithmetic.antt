@@ -1,7 +1,7 @@
 -- Whole numbers as a program computes with them (C99 6.5.5 and 6.5.6), and the ways in which it cannot go on. Which numbers
 -- there are is a test: those of 64 bits with a sign (C99 7.18.1.1), or all. A quotient is truncated toward zero, and a
 -- remainder asks that its quotient be there too, as C99 6.5.5 does.
-use Rattle.std.specs.Prelude.{ℕ, zero, suc, ◌-◌, ◌^◌, ℤ, pos, negsuc, ◌+ℤ◌, ◌-ℤ◌, ◌*ℤ◌, neg_ℤ, Bool, true, false, if◌then◌else◌, ◌&&◌, int_le, int_lt, int_div, int_rem, Option, Some, None, Result, Ok, Err}
+use Rattle.std.specs.Prelude.{zero, suc, ◌-◌, ◌^◌, ℤ, pos, negsuc, ◌+ℤ◌, ◌-ℤ◌, ◌*ℤ◌, neg_ℤ, Bool, true, false, if◌then◌else◌, ◌&&◌, int_le, int_lt, int_div, int_rem, Option, Some, None, Result, Ok, Err}
 
 -- A number that there is not, an index outside its array, a divisor of zero, or a number where a value of a type is read
 -- that is none.

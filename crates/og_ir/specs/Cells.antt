@@ -1,7 +1,7 @@
 -- What a global of a program, or a slot of flat code, holds (C99 6.2.5): one number, or the cells of the members of a
 -- struct, or of the elements of an array, one after the other. A part of it is found by a path of numbers from the outside
 -- inward, each the place of a member or of an element, counted from 0.
-use Rattle.std.specs.Prelude.{ℕ, zero, suc, ◌+◌, ℤ, pos, List, [], ◌∷◌, Option, Some, None}
+use Rattle.std.specs.Prelude.{ℕ, zero, suc, ◌+◌, ℤ, List, [], ◌∷◌, Option, Some, None}
 
 infixl 10 ◌>>=◌
 -- goes on with a value where there is one

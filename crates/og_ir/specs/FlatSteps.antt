@@ -1,13 +1,11 @@
 -- What flat code does, one instruction at a time. The end of a function is a step too, as Back. The numbers that there are
 -- are a test: with all numbers nothing overflows, and with those of 64 bits code that never breaks can be printed as C. A
 -- place's selectors, and the operands of an operation, are computed from left to right, a target before what is put there.
-use Rattle.std.specs.Prelude.{ℕ, zero, suc, ◌+◌, ℤ, pos, List, [], ◌∷◌, Bool, not, if◌then◌else◌, Option, Some, None, Result, Ok, Err, int_le, int_lt, slice_get, length, map}
+use Rattle.std.specs.Prelude.{ℕ, zero, suc, ℤ, pos, List, [], ◌∷◌, Bool, not, if◌then◌else◌, Option, Some, None, Result, Ok, Err, int_le, int_lt, slice_get, map}
 use Rattle.og_types.specs.declared.Sort.{Sort}
 use Rattle.og_ir.specs.declared.Ir.{Ir}
-use Rattle.og_ir.specs.declared.SlotDef.{SlotDef}
 use Rattle.og_ir.specs.declared.SlotSort.{SlotSort}
 use Rattle.og_ir.specs.declared.SlotSort.TheVariants as slot_sort
-use Rattle.og_ir.specs.declared.FlatFn.{FlatFn}
 use Rattle.og_ir.specs.declared.Instr.{Instr}
 use Rattle.og_ir.specs.declared.Instr.TheVariants as instr
 use Rattle.og_ir.specs.declared.Slot.{Slot}
@@ -25,7 +23,7 @@ use Rattle.og_ir.specs.declared.Case.{Case}
 use Rattle.og_ir.specs.Cells.{Cells, Cell, number_in, part, part_at, put_at, global, change_global}
 use Rattle.og_ir.specs.Reading.{natural, blank}
 use Rattle.og_ir.specs.Arithmetic.{Trouble, Index, ◌>>=◌, or_else, sum_of, difference_of, product_of, quotient_of, remainder_of, is_same}
-use Rattle.og_ir.specs.Steps.{Frame, Config, Running, Over, Broken, Ran, quiet, exec, with_value, onward, jumped, returned, called, showing}
+use Rattle.og_ir.specs.Steps.{Frame, Config, Running, Over, Broken, Ran, quiet, with_value, onward, jumped, returned, called, showing}
 
 -- A slot, and the path to a part of it.
 pub record Spot : Type 0 where
@@ -113,14 +111,14 @@ case_of z (c ∷ cases) otherwise = if is_same z c.value then c.to else case_of 
 abbrev pub act : {E : Type 0} → (ℕ → List Cells → Option E) → (ℤ → Bool) → List Cells → Frame → List Frame → Instr → Ran E
 act shows is_there slots frame callers (instr.Set slot e) =
     with_value (spot_of (value_of is_there slots) slots slot) (λ spot.
-        with_value (value_of is_there slots e) (λ z. quiet (Running (put slots spot (Cell z)) (onward frame) callers)))
+    with_value (value_of is_there slots e) (λ z. quiet (Running (put slots spot (Cell z)) (onward frame) callers)))
 act shows is_there slots frame callers (instr.Copy to from) =
     with_value (spot_of (value_of is_there slots) slots to) (λ spot.
-        with_value (spot_of (value_of is_there slots) slots from >>= cells_at slots) (λ cells.
-            quiet (Running (put slots spot cells) (onward frame) callers)))
+    with_value (spot_of (value_of is_there slots) slots from >>= cells_at slots) (λ cells.
+    quiet (Running (put slots spot cells) (onward frame) callers)))
 act shows is_there slots frame callers (instr.Branch test place) =
     with_value (holds is_there slots test) (λ b.
-        quiet (Running slots (if b then jumped frame place else onward frame) callers))
+    quiet (Running slots (if b then jumped frame place else onward frame) callers))
 act shows is_there slots frame callers (instr.Goto place) = quiet (Running slots (jumped frame place) callers)
 act shows is_there slots frame callers (instr.Table e cases otherwise) =
     with_value (value_of is_there slots e) (λ z. quiet (Running slots (jumped frame (case_of z cases otherwise)) callers))
@@ -137,7 +135,7 @@ fetched shows is_there slots frame callers (Some i) = act shows is_there slots f
 abbrev pub flat_step : {E : Type 0} → (ℕ → List Cells → Option E) → (ℤ → Bool) → Ir → Config → Ran E
 flat_step shows is_there ir (Running slots frame callers) =
     with_value (or_else (slice_get ir.functions frame.function) Index) (λ f.
-        fetched shows is_there slots frame callers (slice_get f.code frame.place))
+    fetched shows is_there slots frame callers (slice_get f.code frame.place))
 flat_step shows is_there ir (Over slots) = quiet (Over slots)
 flat_step shows is_there ir (Broken trouble) = quiet (Broken trouble)
 

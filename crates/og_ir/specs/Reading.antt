@@ -4,7 +4,7 @@
 -- length and of an array of its greatest length, which is left out where that is 0. Cells of alternatives that are not
 -- chosen and of items past the length may hold anything. A type refers to types of smaller numbers: so a type of number k
 -- is looked at by going down at most k + 1 times.
-use Rattle.std.specs.Prelude.{ℕ, zero, suc, ◌+◌, ℤ, pos, negsuc, List, [], ◌∷◌, Option, Some, None, Bool, true, false, if◌then◌else◌, ◌&&◌, ◌==◌, int_le, nat_lt, nat_le, length, map, slice_get}
+use Rattle.std.specs.Prelude.{ℕ, zero, suc, ◌+◌, ℤ, pos, negsuc, List, [], ◌∷◌, Option, Some, None, Bool, if◌then◌else◌, ◌&&◌, ◌==◌, int_le, nat_lt, nat_le, length, map, slice_get}
 use Rattle.og_types.specs.declared.Part.{Part}
 use Rattle.og_types.specs.declared.Sort.{Sort}
 use Rattle.og_types.specs.declared.Sort.TheVariants as sort

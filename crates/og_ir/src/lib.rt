@@ -1,6 +1,7 @@
 //! Flat code: functions of instructions over slots, with jumps by number. It is the middle of a compilation.
 #![tactic(auto)]
 
+mod copy;
 mod step_laws;
 mod value_laws;
 

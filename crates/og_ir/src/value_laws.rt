@@ -16,12 +16,10 @@ pub fn cells_hold_values()
         → value_in sorts t (cells_of sorts t v) ≡ Some v }
     ensures in_type { (sorts : List Sort) (t : TypeId) (cells : Cells) (v : Value) → value_in sorts t cells ≡ Some v
         → is_in sorts t v ≡ true }
-{
-}
+{}
 
 /// The value of an expression of flat code is made of the values of its parts.
 pub fn code_values_of_parts()
     ensures { (is_there : ℤ → Bool) (slots : List Cells) (e : Expression)
         → value_of is_there slots e ≡ value_by (value_of is_there slots) is_there slots (out-Flat e) }
-{
-}
+{}

@@ -5,10 +5,9 @@ mod outside;
 
 use crate::outside::{FileStore, StdoutSink};
 use og_tool::{Status, run_tool};
-use std::env;
-use std::io;
 use std::process::ExitCode;
 use std::rt::Env;
+use std::{env, io};
 
 fn main(rt: HostRuntime) -> ExitCode {
     match words(&rt) {

@@ -3,10 +3,9 @@
 ghost use Rattle.std.specs.Prelude.{◌≤◌, length, IfOk};
 
 use og_base::{Failed, Sink, Store};
-use std::fs;
-use std::io;
 use std::io::{Read, Seek, SeekFrom, Write};
 use std::rt::Files;
+use std::{fs, io};
 
 /// The files of the file system.
 #[derive(Drop)]

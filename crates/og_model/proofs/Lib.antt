@@ -1,4 +1,5 @@
 pub mod Computing
+pub mod RegionLayers
 pub mod MoreUnits
 pub mod MoreOfModel
 pub mod RunLaws

@@ -2,20 +2,22 @@
 #![tactic(auto)]
 
 pub mod laws;
-
 mod numbers;
-mod regions;
+
 pub use numbers::{
     bulk_of_nested_states, bulk_of_two_states, bulk_with_a_call, data_is_well_formed,
     first_values_are_in_their_types, further_forms, inlined_size_of_two_states,
     inlined_size_with_a_call, names_have_single_underscores, nested_states_are_well_formed,
     processes_have_a_start, regions_of_nested_states, regions_of_two_states,
-    signals_are_handled_once, states_are_there, two_states_are_well_formed,
+    scopes_have_what_their_states_have, signals_are_handled_once, states_are_there,
+    two_states_are_well_formed,
 };
+
+mod copy;
+
 use og_base::Place;
 use og_names::{NameId, Names};
 use og_types::{TypeId, TypeTable, Value};
-pub use regions::{Leaf, Region};
 use sqlite_items::{Boxed, Items};
 
 /// A process after its names are resolved. Lists stand in the order of the text.
@@ -352,6 +354,23 @@ pub enum BinaryOp {
     Xor,
     AndThen,
     OrElse,
+}
+
+/// A place where a region can rest: a basic state, or a state aggregation. Its path leads from the region inward, by the
+/// names of states.
+#[derive(Drop)]
+pub struct Leaf {
+    pub path: Items<NameId>,
+    /// A basic state, and no aggregation.
+    pub basic: bool,
+}
+
+/// The process, or a partition of a state aggregation. Its path leads from the process inward, by the names of states and
+/// partitions; that of the process is empty. Its leaves are numbered from 0.
+#[derive(Drop)]
+pub struct Region {
+    pub path: Items<NameId>,
+    pub leaves: Items<Leaf>,
 }
 
 /// What a stimulus is: the start, a signal or the expiry of a timer, by its number in the model.

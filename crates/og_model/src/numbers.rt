@@ -1,12 +1,18 @@
-//! Examples of regions, sizes and well-formed models, computed from their definitions.
+//! A law of regions; and examples of regions, sizes and well-formed models, computed from their definitions.
 
 ghost use Rattle.std.specs.Prelude.{◌≡◌, ◌+◌, ◌*◌, List, [], ◌∷◌, true, false};
+ghost use Rattle.og_model.specs.declared.Scope.{Scope, out-Scope};
 ghost use Rattle.og_model.specs.RegionTypes.{Leaf, Region};
-ghost use Rattle.og_model.specs.Regions.{regions};
+ghost use Rattle.og_model.specs.Regions.{insides_of, regions, states_insides};
 ghost use Rattle.og_model.specs.Size.{bulk, inlined};
 ghost use Rattle.og_model.specs.WellFormed.{IsWellFormed};
 ghost use Rattle.og_model.specs.Forms.{UsesBasicStatesOnly};
 ghost use Rattle.og_model.specs.Sample.{double_underscore, first_value_outside, nested, state_not_there, twice_handled, two_states, with_data, without_start, leaf, region};
+
+/// A scope has the leaves and regions of its states, one after the other.
+pub fn scopes_have_what_their_states_have()
+    ensures { (m : Scope) → insides_of m ≡ states_insides insides_of (out-Scope m).states }
+{}
 
 /// Two basic states are two leaves of one region.
 #[tactic(auto, unfolding(crate::proofs::Computing::trees))]

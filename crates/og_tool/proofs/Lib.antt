@@ -1,2 +1,4 @@
 pub mod Repeats
 pub mod Sentences
+pub mod WordForms
+pub mod RunParts

@@ -1,7 +1,10 @@
 //! The model of a file that keeps the rules.
 use crate::rules::{Tables, add_name, number_in};
 use crate::syntax::{Ident, InputText, NextText, StateText, SystemText};
-use og_model::{Action, Block, Body, EndKind, Ending, Handler, Model, Scope, Signal, Start, StateDef, StateKind, Step, Trigger};
+use og_model::{
+    Action, Block, Body, EndKind, Ending, Handler, Model, Scope, Signal, Start, StateDef,
+    StateKind, Step, Trigger,
+};
 use og_names::{NameId, Names, NoMemory};
 use og_types::TypeTable;
 use sqlite_items::Items;
@@ -61,7 +64,11 @@ fn id_of(names: &Names, name: &Ident) -> NameId {
 }
 
 /// Until routes are read each signal goes both ways.
-fn signals_of(alloc: Global, system: &SystemText, names: &Names) -> Result<Items<Signal>, NoMemory> {
+fn signals_of(
+    alloc: Global,
+    system: &SystemText,
+    names: &Names,
+) -> Result<Items<Signal>, NoMemory> {
     let mut signals = Items::new(alloc);
     for signal in system.signals.as_slice() {
         push_signal(alloc, &mut signals, names, &signal.first)?;
@@ -70,14 +77,24 @@ fn signals_of(alloc: Global, system: &SystemText, names: &Names) -> Result<Items
     Ok(signals)
 }
 
-fn push_signals(alloc: Global, signals: &mut Items<Signal>, names: &Names, more: &[Ident]) -> Result<(), NoMemory> {
+fn push_signals(
+    alloc: Global,
+    signals: &mut Items<Signal>,
+    names: &Names,
+    more: &[Ident],
+) -> Result<(), NoMemory> {
     for name in more {
         push_signal(alloc, signals, names, name)?;
     }
     Ok(())
 }
 
-fn push_signal(alloc: Global, signals: &mut Items<Signal>, names: &Names, name: &Ident) -> Result<(), NoMemory> {
+fn push_signal(
+    alloc: Global,
+    signals: &mut Items<Signal>,
+    names: &Names,
+    name: &Ident,
+) -> Result<(), NoMemory> {
     let signal = Signal {
         name: id_of(names, name),
         sorts: Items::new(alloc),
@@ -89,9 +106,17 @@ fn push_signal(alloc: Global, signals: &mut Items<Signal>, names: &Names, name: 
 }
 
 /// The states in the order of their first headers, the start, and the transitions in the order of the text.
-fn scope_of(alloc: Global, system: &SystemText, tables: &Tables, names: &Names) -> Result<Scope, NoMemory> {
+fn scope_of(
+    alloc: Global,
+    system: &SystemText,
+    tables: &Tables,
+    names: &Names,
+) -> Result<Scope, NoMemory> {
     let mut starts = Items::new(alloc);
-    starts.push(Start { entry: None, body: 0 })?;
+    starts.push(Start {
+        entry: None,
+        body: 0,
+    })?;
     let mut bodies = Items::new(alloc);
     bodies.push(start_body(alloc, system, tables)?)?;
     let mut states = Vec::new(alloc);
@@ -170,7 +195,11 @@ fn handler_of(alloc: Global, input: &InputText, tables: &Tables, body: u32) -> H
 }
 
 /// Gives the handler to the state of this number.
-fn add_handler(states: &mut Vec<StateDef>, number: usize, handler: Handler) -> Result<(), NoMemory> {
+fn add_handler(
+    states: &mut Vec<StateDef>,
+    number: usize,
+    handler: Handler,
+) -> Result<(), NoMemory> {
     if number < states.len() {
         let state = &mut states[number];
         state.handlers.push(handler)?;

@@ -1,8 +1,8 @@
 //! The rules that a model file keeps, and the first violation of them.
 use crate::syntax::{Ident, InputText, SignalText, StateText, SystemText};
+use indexmap::IndexSet;
 use og_base::{Rule, Violation, sooner};
 use og_names::{NameId, Names, NoMemory};
-use indexmap::IndexSet;
 use std::alloc::Global;
 
 /// The folded names of a file: its signals, its states, and what stands around them.
@@ -99,11 +99,23 @@ fn is_in(table: &Names, name: &Ident) -> bool {
 }
 
 fn note(first: &mut Option<Violation>, rule: Rule, name: &Ident) {
-    *first = sooner(*first, Violation { rule, place: name.place });
+    *first = sooner(
+        *first,
+        Violation {
+            rule,
+            place: name.place,
+        },
+    );
 }
 
 /// N1 and N3 at a name that its own space does not have.
-fn note_unknown(own: &Names, other: &Names, outer: &Names, name: &Ident, first: &mut Option<Violation>) {
+fn note_unknown(
+    own: &Names,
+    other: &Names,
+    outer: &Names,
+    name: &Ident,
+    first: &mut Option<Violation>,
+) {
     if is_in(own, name) {
         return;
     }
@@ -261,7 +273,10 @@ fn note_repeated_handler(
     handled: &mut Handled,
     first: &mut Option<Violation>,
 ) -> Result<(), NoMemory> {
-    let handler = (number_in(&tables.states, &state.name), number_in(&tables.signals, &input.signal));
+    let handler = (
+        number_in(&tables.states, &state.name),
+        number_in(&tables.signals, &input.signal),
+    );
     let (_, new) = handled.insert_full(handler)?;
     if !new {
         note(first, Rule::A2, &input.signal);

@@ -3,6 +3,7 @@
 
 ghost use Rattle.std.specs.Prelude.{◌≡◌, []};
 
+mod copy;
 pub mod laws;
 
 use og_names::NameId;

@@ -1,0 +1,9 @@
+pub mod Words
+pub mod TwoStates
+pub mod Faults
+pub mod Procedures
+pub mod Nested
+pub mod Aggregations
+pub mod Timers
+pub mod Continuous
+pub mod Data
