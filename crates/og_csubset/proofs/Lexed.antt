@@ -238,7 +238,7 @@ sign_stands b bs r =
     (try_sign b 62 bs _ _ r (longer_stands 62 61 (Some (relation Ge)) (Some (relation Gt)) bs r (refl, tt, λ x. refl) (refl, tt, λ x. refl))
     (λ h. nothing r h)))))))))))))))))))
 
-first_stands : (bs : List ℕ) (r : Token × List ℕ) → first_token bs ≡ Some r → Stands bs r.0 r.1
+pub first_stands : (bs : List ℕ) (r : Token × List ℕ) → first_token bs ≡ Some r → Stands bs r.0 r.1
 unfolding first_token
 first_stands [] r h = nothing r h
 first_stands (b ∷ bs) r h = letter (is_letter b) refl h
@@ -255,7 +255,7 @@ first_stands (b ∷ bs) r h = letter (is_letter b) refl h
     letter true e h = word_stands b bs r e h
     letter false e h = digit (is_digit b) refl h
 
-pub begins-next : (bytes : List ℕ) (t : Token) (rest : List ℕ) → next_token bytes ≡ Some (t, rest) → Begins bytes t rest
+unfoldable pub begins-next : (bytes : List ℕ) (t : Token) (rest : List ℕ) → next_token bytes ≡ Some (t, rest) → Begins bytes t rest
 unfolding next_token
 begins-next bytes t rest h =
     let stands = first_stands (cut is_space bytes).1 (t, rest) h in

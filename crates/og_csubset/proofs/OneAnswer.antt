@@ -1,16 +1,16 @@
 -- Each text is spelt by a program within the limit of nesting, or is too deep at a place, or is bad at a place.
-use Rattle.std.proofs.Common.{◌≡◌, ℕ, zero, suc, ◌+◌, ◌<◌, ◌≤◌, max, Bool, true, false, List, [], ◌∷◌, ◌++◌, length, ◌⊎◌, inl, inr, ⊎_elim, refl, sym, ap, ◌∙◌, subst, arith, le_trans, length-append}
+use Rattle.std.proofs.Common.{◌≡◌, ℕ, ◌<◌, ◌≤◌, true, List, [], ◌∷◌, ◌++◌, length, ◌⊎◌, inl, inr, ⊎_elim, sym, ap, ◌∙◌, subst, arith, length-append}
 use Rattle.std.specs.List.{list_all}
 use Rattle.std.proofs.Math.Nat.{max-le}
 use Rattle.std.proofs.lemmas.Bool.{cases_lt}
 use Rattle.std.proofs.lemmas.List.{append_cancel_left}
 use Rattle.og_csubset.specs.declared.CProgram.{CProgram}
-use Rattle.og_csubset.specs.Tokens.{Token, spelling, is_space, Begins, Cuts, HasTokens, first_line}
+use Rattle.og_csubset.specs.Tokens.{Token, spelling, is_space, Begins, Cuts, first_line}
 use Rattle.og_csubset.specs.Spelling.{CSpells}
-use Rattle.og_csubset.specs.Nesting.{Nest, outermost, after_token, after_tokens, nesting_from, nesting, IsWithinNesting, PassesNesting}
+use Rattle.og_csubset.specs.Nesting.{Nest, outermost, after_token, nesting_from, nesting, IsWithinNesting, PassesNesting}
 use Rattle.og_csubset.specs.Wrong.{BeginsWithNoSpace, GoesWrongBehind, GoesWrong, in_first_line, behind}
 use Rattle.og_csubset.specs.Refusals.{IsTooDeep, IsBad}
-use Rattle.og_csubset.proofs.Lexing.{cut, StopsAt, cut-append, same_first, no_space_first}
+use Rattle.og_csubset.proofs.Lexing.{cut, cut-append, same_first, no_space_first}
 use Rattle.og_csubset.proofs.Text.{some_byte}
 use Rattle.og_csubset.proofs.Nested.{Passes, depth, first_within, others_within, past_in, past_somewhere}
 use Rattle.og_csubset.proofs.WrongPlace.{GoesWrong-unique, spelt_or_wrong, stops}

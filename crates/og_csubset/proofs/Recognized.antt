@@ -1,18 +1,14 @@
 -- What the recognizer accepts the grammar has.
-use Rattle.std.proofs.Common.{◌≡◌, ℕ, zero, suc, ◌+◌, ◌-◌, ◌^◌, ◌<◌, ◌≤◌, Bool, true, false, cond, ◌&&◌, ◌==◌, List, [], ◌∷◌, ◌++◌, length, IsTrue, ℤ, pos, negsuc, neg_ℤ, ◌⊎◌, inl, inr, ⊎_elim, Option, Some, None, refl, sym, ap, ◌∙◌, subst, arith, nat_lt, nat_le, eqb-true, leb-true, ltb-true}
+use Rattle.std.proofs.Common.{◌≡◌, ℕ, zero, suc, ◌-◌, ◌^◌, ◌<◌, ◌≤◌, Bool, true, false, cond, ◌&&◌, ◌==◌, List, [], ◌∷◌, ◌++◌, length, ℤ, pos, negsuc, neg_ℤ, ◌⊎◌, inl, inr, ⊎_elim, Some, None, refl, sym, ap, ◌∙◌, subst, arith, nat_lt, nat_le, eqb-true, leb-true, ltb-true}
 use Rattle.std.proofs.lemmas.Bool.{true≢false, and_parts}
 use Rattle.og_names.specs.declared.Word.{Word}
 use Rattle.og_csubset.specs.declared.CProgram.{CProgram}
 use Rattle.og_csubset.specs.declared.CStruct.{CStruct}
-use Rattle.og_csubset.specs.declared.CMember.{CMember}
-use Rattle.og_csubset.specs.declared.CGlobal.{CGlobal}
 use Rattle.og_csubset.specs.declared.CType.{CType}
 use Rattle.og_csubset.specs.declared.CType.TheVariants.{Int64, Struct}
 use Rattle.og_csubset.specs.declared.CFunction.{CFunction}
 use Rattle.og_csubset.specs.declared.CStmt.{CStmt}
 use Rattle.og_csubset.specs.declared.CStmt.TheVariants.{Assign, IfGoto, Goto, Label, Switch, Call, Return}
-use Rattle.og_csubset.specs.declared.CCase.{CCase}
-use Rattle.og_csubset.specs.declared.CPlace.{CPlace}
 use Rattle.og_csubset.specs.declared.CStep.{CStep, Member, At}
 use Rattle.og_csubset.specs.declared.CExpr.{CExpr, Number, Read, Minus, Op, Pick}
 use Rattle.og_csubset.specs.declared.CTest.{CTest}
@@ -20,13 +16,13 @@ use Rattle.og_csubset.specs.declared.COp.{COp}
 use Rattle.og_csubset.specs.declared.COp.TheVariants.{Add, Sub, Mul, Div, Rem}
 use Rattle.og_csubset.specs.declared.CRel.{CRel}
 use Rattle.og_csubset.specs.Tokens.{Token, name, number, operator, relation, keyword, mark, Keyword, typedef_, struct_, void_, if_, goto_, switch_, case_, default_, return_, int64_t, INT64_C, Mark, open_brace, close_brace, open_square, close_square, open_round, close_round, semicolon, colon, question, dot, equals}
-use Rattle.og_csubset.specs.Spelling.{word, least, literal, least_text, is_sum, is_product, IsSum, sum, SumGoesOn, sum_ends, add, IsProduct, product, ProductGoesOn, product_ends, multiply, IsSigned, positive, negative, minus_zero, unsigned, minus, IsOperand, read, bracket, pick, least_number, IsTest, test, IsPlace, place, IsPath, path_ends, member, index, Each, none, one_more, IsConstant, constant, negative_constant, least_constant, IsCase, case_goto, IsStatement, assign, if_goto, goto, label, switch, call, return, IsType, number_type, struct_type, IsMember, single, array, IsStruct, structure, IsGlobal, global, IsEvent, event, IsFunction, function, IsProgram, program}
+use Rattle.og_csubset.specs.Spelling.{word, least, literal, least_text, is_sum, is_product, IsSum, IsProduct, IsSigned, positive, negative, minus_zero, unsigned, minus, IsOperand, read, bracket, pick, least_number, IsTest, test, place, IsPath, path_ends, member, index, Each, none, one_more, IsConstant, constant, negative_constant, least_constant, IsCase, case_goto, IsStatement, assign, if_goto, goto, label, switch, call, return, IsType, number_type, struct_type, IsMember, single, array, IsStruct, structure, IsGlobal, global, IsEvent, event, IsFunction, function, IsProgram, program}
 use Rattle.og_csubset.proofs.Reading.{Found, least_at, mark_number, keyword_number, number_at, sum_at, negated}
 use Rattle.og_csubset.proofs.Seen.{Some-same, seen_least, least_missed, same_mark_number, same_keyword_number}
-use Rattle.og_csubset.proofs.Complete.{sum_complete, least_sum, sum_shrinks, signed_shrinks, path_shrinks, case_shrinks, statement_shrinks, member_shrinks, struct_shrinks, global_shrinks, event_shrinks, function_shrinks}
+use Rattle.og_csubset.proofs.Complete.{sum_complete, least_sum, sum_shrinks, signed_shrinks, case_shrinks, statement_shrinks, member_shrinks, struct_shrinks, global_shrinks, function_shrinks}
 use Rattle.og_csubset.proofs.Sound.{on}
 use Rattle.og_csubset.proofs.PlainSpelt.{to_product, to_sum, sum_on, product_on}
-use Rattle.og_csubset.proofs.Recognizer.{Symbol, Symbols, a_keyword, a_mark, a_sign, a_name, a_number, this_number, a_size, a_relation, a_sum, more, an_operand, a_path, bracket_rest, a_constant, cases, named_rest, statements, member_rest, a_member, members, structs, globals, head_rest, declarations, functions, step, step_on, and_goes_on, accepts, may_end, program_symbols, literal_rest, least_rest, jump_rest, value_rest, head, body}
+use Rattle.og_csubset.proofs.Recognizer.{Symbol, Symbols, a_keyword, a_mark, a_sign, a_name, a_number, this_number, a_size, a_relation, a_sum, more, an_operand, a_path, bracket_rest, a_constant, cases, named_rest, statements, member_rest, a_member, members, structs, globals, head_rest, declarations, functions, step, step_on, and_goes_on, accepts, program_symbols, literal_rest, least_rest, jump_rest, head}
 
 no : {C : Type 0} → ◌≡◌ {A = Bool} false true → C
 no h = absurd (true≢false (sym h))

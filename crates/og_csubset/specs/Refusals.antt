@@ -1,7 +1,7 @@
 -- Why a text is refused, and where. Of the two rules the one that is broken first counts: at the first token that passes the
 -- limit of nesting, if the text has not gone wrong at or before it, and otherwise where the text goes wrong. A place is told
 -- by the bytes before it. Lines end at LF; lines and columns count from 1, columns in bytes.
-use Rattle.std.specs.Prelude.{ℕ, ◌+◌, ◌<◌, ◌≤◌, List, [], ◌∷◌, length, cond, ◌==◌}
+use Rattle.std.specs.Prelude.{◌≡◌, ℕ, ◌+◌, ◌<◌, ◌≤◌, List, [], ◌∷◌, length, cond, ◌==◌}
 use Rattle.og_base.specs.declared.Place.{Place}
 use Rattle.og_csubset.specs.Nesting.{PassesNesting}
 use Rattle.og_csubset.specs.Wrong.{GoesWrong}
@@ -28,3 +28,8 @@ column_from column (byte ∷ bytes) = cond (byte == 10) (column_from 1 bytes) (c
 -- the place right behind these bytes, in a text that is no model file
 abbrev pub place_behind : List ℕ → Place
 place_behind bytes = record { file = 0; line = line_behind bytes; column = column_from 1 bytes }
+
+-- the text goes wrong in this line at this column
+abbrev pub GoesWrongAt : List ℕ → ℕ → ℕ → Type 0
+GoesWrongAt text line column =
+    (before : List ℕ) × GoesWrong text before × (place_behind before ≡ record { file = 0; line = line; column = column })

@@ -18,8 +18,9 @@ pub use run_laws::{
     more_statements_go_on, statements_split, values_of_parts,
 };
 pub use spelling_laws::{
-    brackets, least_number, nesting_counts, one_deep_place, one_list_of_tokens, one_program,
-    one_wrong_place, plain_text_of_each, refused, signs, white_space, whole_text,
+    brackets, least_number, nesting_counts, one_answer, one_deep_place, one_list_of_tokens,
+    one_program, one_wrong_place, plain_text_of_each, refused, signs, white_space, whole_text,
+    wrong_places,
 };
 use sqlite_items::{Boxed, Items};
 

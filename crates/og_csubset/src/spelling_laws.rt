@@ -1,12 +1,13 @@
 //! Laws of the texts of the C subset. Nothing calls these functions: each states a law of the definitions as its contract.
 
-ghost use Rattle.std.specs.Prelude.{◌≡◌, ◌<◌, ◌≤◌, ℕ, ℤ, pos, negsuc, List, [], ◌∷◌, ◌++◌, codes};
+ghost use Rattle.std.specs.Prelude.{◌≡◌, ◌<◌, ◌≤◌, ◌⊎◌, ℕ, ℤ, pos, negsuc, List, [], ◌∷◌, ◌++◌, codes};
 ghost use Rattle.og_csubset.specs.declared.CProgram.{CProgram as Program};
 ghost use Rattle.og_csubset.specs.declared.CExpr.{Number, Minus, Op};
 ghost use Rattle.og_csubset.specs.declared.COp.TheVariants.{Add, Sub, Mul, Div, Rem};
 ghost use Rattle.og_csubset.specs.Tokens.{Token, HasTokens};
 ghost use Rattle.og_csubset.specs.Nesting.{nesting, HasNesting, IsWithinNesting, PassesNesting};
 ghost use Rattle.og_csubset.specs.Plain.{plain_tokens, plain_text, IsWellMade};
+ghost use Rattle.og_csubset.specs.Refusals.{IsTooDeep, IsBad, GoesWrongAt};
 ghost use Rattle.og_csubset.specs.Wrong.{GoesWrong};
 ghost use Rattle.og_csubset.specs.Spelling.{CSpells, least};
 ghost use Rattle.og_csubset.specs.Texts.{lines, in_brackets, statements_text, number_of, spaced_statement, Assigns, SpeltByNone, counting, counting_text, forms, forms_text};
@@ -135,10 +136,43 @@ pub fn plain_text_of_each()
         → nesting (plain_tokens P) ≤ limit → IsWithinNesting limit (plain_text P) }
 {}
 
-/// A text goes wrong at one place at most, and at none where a program spells it.
+/// A text that no program spells goes wrong at one place, and any other at none.
 pub fn one_wrong_place()
-    ensures unique { (text before other : List ℕ) → GoesWrong text before
-        → GoesWrong text other → before ≡ other }
-    ensures nowhere { (P : Program) (text before : List ℕ) → CSpells P text
-        → GoesWrong text before → ⊥ }
+    ensures unique { (text before other : List ℕ) → GoesWrong text before → GoesWrong text other → before ≡ other }
+    ensures nowhere { (P : Program) (text before : List ℕ) → CSpells P text → GoesWrong text before → ⊥ }
+    ensures somewhere { (text : List ℕ)
+        → ((P : Program) × CSpells P text) ⊎ ((before : List ℕ) × GoesWrong text before) }
+{}
+
+/// Of each text one thing is true: a program spells it within the limit of nesting, or it nests too deep at a place, or it is
+/// bad at a place.
+pub fn one_answer()
+    ensures some { (limit : ℕ) (text : List ℕ) → ((P : Program) × CSpells P text × IsWithinNesting limit text)
+        ⊎ (((before : List ℕ) × IsTooDeep limit text before) ⊎ ((before : List ℕ) × IsBad limit text before)) }
+    ensures not_spelt_and_deep { (limit : ℕ) (text before : List ℕ)
+        → IsWithinNesting limit text → IsTooDeep limit text before → ⊥ }
+    ensures not_spelt_and_bad { (limit : ℕ) (P : Program) (text before : List ℕ)
+        → CSpells P text → IsBad limit text before → ⊥ }
+    ensures not_deep_and_bad { (limit : ℕ) (text before other : List ℕ)
+        → IsTooDeep limit text before → IsBad limit text other → ⊥ }
+{}
+
+/// Where some texts go wrong, by line and column, counted by hand.
+pub fn wrong_places()
+    ensures cut_in_a_word { GoesWrongAt
+        (lines (codes "#include <stdint.h>" ∷ []) ++ codes "void sta") 2 9 }
+    ensures behind_the_last_line { GoesWrongAt
+        (lines (codes "#include <stdint.h>" ∷ codes "void f(void) {" ∷ [])) 3 1 }
+    ensures no_semicolon { GoesWrongAt (statements_text (codes "x = a")) 2 20 }
+    ensures leading_zero { GoesWrongAt (statements_text (codes "x = INT64_C(07);")) 2 27 }
+    ensures past_the_limit { GoesWrongAt
+        (statements_text (codes "x = INT64_C(9223372036854775808);")) 2 27 }
+    ensures two_signs { GoesWrongAt (statements_text (codes "x = - - a;")) 2 21 }
+    ensures joined_signs { GoesWrongAt (statements_text (codes "x = a --INT64_C(1);")) 2 21 }
+    ensures keyword { GoesWrongAt (statements_text (codes "while = a;")) 2 15 }
+    ensures label_alone { GoesWrongAt (statements_text (codes "l:")) 2 17 }
+    ensures foreign_byte { GoesWrongAt (statements_text (codes "x = a & b;")) 2 21 }
+    ensures size_past { GoesWrongAt
+        (lines (codes "#include <stdint.h>" ∷ codes "typedef struct { int64_t e[65537]; } A;" ∷ [])) 2 28 }
+    ensures first_line { GoesWrongAt (lines (codes "#include  <stdint.h>" ∷ [])) 1 1 }
 {}
