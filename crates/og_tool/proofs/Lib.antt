@@ -1,2 +1,6 @@
+pub mod Additions
+pub mod Loops
 pub mod Repeats
 pub mod Sentences
+pub mod ShortNames
+pub mod Underlines

@@ -3,3 +3,5 @@ pub mod Rules
 pub mod Files
 pub mod Statuses
 pub mod Reading
+pub mod Names
+pub mod Tables
