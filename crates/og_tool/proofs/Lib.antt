@@ -1,5 +1,9 @@
+pub mod Additions
+pub mod Loops
 pub mod Repeats
 pub mod Sentences
 pub mod WordForms
 pub mod RunParts
 pub mod OneAnswer
+pub mod ShortNames
+pub mod Underlines

@@ -6,3 +6,5 @@ pub mod Answers
 pub mod Answering
 pub mod Statuses
 pub mod Reading
+pub mod Names
+pub mod Tables
