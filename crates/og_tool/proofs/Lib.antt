@@ -7,3 +7,4 @@ pub mod RunParts
 pub mod OneAnswer
 pub mod ShortNames
 pub mod Underlines
+pub mod ShortParts

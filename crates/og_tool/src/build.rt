@@ -1,7 +1,7 @@
 //! The model of a file that keeps the rules.
 ghost use Rattle.og_tool.specs.Names.{AreShort, HasShortNames, input_names, state_names};
 
-use crate::rules::{Tables, add_declared, add_name, number_in};
+use crate::rules::{Tables, add_declared, add_name, add_names, number_in};
 use crate::syntax::{Ident, InputText, NextText, StateText, SystemText};
 use og_model::{
     Action, Block, Body, EndKind, Ending, Handler, Model, Scope, Signal, Start, StateDef,
@@ -31,7 +31,7 @@ pub fn model_of(alloc: Global, system: &SystemText, tables: &Tables) -> Result<M
 }
 
 /// Numbers the names in the order of the tokens.
-#[tactic(auto, using(crate::proofs::ShortNames::shorts))]
+#[tactic(auto, using(crate::proofs::ShortNames::shorts, crate::proofs::ShortParts::parts))]
 fn add_all_names(names: &mut Names, system: &SystemText) -> Result<(), NoMemory>
     requires { HasShortNames system.now }
 {
@@ -48,17 +48,7 @@ fn add_all_names(names: &mut Names, system: &SystemText) -> Result<(), NoMemory>
     Ok(())
 }
 
-#[tactic(auto, using(crate::proofs::ShortNames::shorts))]
-fn add_each(names: &mut Names, more: &[Ident]) -> Result<(), NoMemory>
-    requires { AreShort more.now }
-{
-    for name in more {
-        add_name(names, name)?;
-    }
-    Ok(())
-}
-
-#[tactic(auto, using(crate::proofs::ShortNames::shorts))]
+#[tactic(auto, using(crate::proofs::ShortNames::shorts, crate::proofs::ShortParts::parts))]
 fn add_state_names(names: &mut Names, state: &StateText) -> Result<(), NoMemory>
     requires { AreShort (state_names state.now) }
 {
@@ -69,12 +59,12 @@ fn add_state_names(names: &mut Names, state: &StateText) -> Result<(), NoMemory>
     Ok(())
 }
 
-#[tactic(auto, using(crate::proofs::ShortNames::shorts))]
+#[tactic(auto, using(crate::proofs::ShortNames::shorts, crate::proofs::ShortParts::parts))]
 fn add_input_names(names: &mut Names, input: &InputText) -> Result<(), NoMemory>
     requires { AreShort (input_names input.now) }
 {
     add_name(names, &input.signal)?;
-    add_each(names, input.outputs.as_slice())?;
+    add_names(names, input.outputs.as_slice())?;
     add_name(names, &input.next.state)?;
     Ok(())
 }

@@ -136,7 +136,7 @@ fn add_each(table: &mut Names, names: &[&[u8]]) -> Result<(), NoMemory>
 }
 
 #[tactic(auto, using(crate::proofs::ShortNames::shorts))]
-fn add_declared(table: &mut Names, signal: &SignalText) -> Result<(), NoMemory>
+pub fn add_declared(table: &mut Names, signal: &SignalText) -> Result<(), NoMemory>
     requires { AreShort (declared_by signal.now) }
     ensures { OnOk result (table.new ≡ with_names table.old (map key (declared_by signal.now))) }
 {
@@ -145,7 +145,7 @@ fn add_declared(table: &mut Names, signal: &SignalText) -> Result<(), NoMemory>
 }
 
 #[tactic(auto, using(crate::proofs::ShortNames::shorts))]
-fn add_names(table: &mut Names, names: &[Ident]) -> Result<(), NoMemory>
+pub fn add_names(table: &mut Names, names: &[Ident]) -> Result<(), NoMemory>
     requires { AreShort names.now }
     ensures { OnOk result (table.new ≡ with_names table.old (map key names.now)) }
 {
