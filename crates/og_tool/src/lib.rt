@@ -3,6 +3,7 @@
 
 mod build;
 mod compile;
+mod laws;
 mod parse;
 mod report;
 mod rules;
@@ -11,5 +12,6 @@ mod status;
 mod syntax;
 mod words;
 
+pub use laws::{first_is_least, names_are_short};
 pub use run::run_tool;
 pub use status::Status;
