@@ -1,4 +1,5 @@
 pub mod Additions
+pub mod Least
 pub mod Loops
 pub mod Repeats
 pub mod Sentences

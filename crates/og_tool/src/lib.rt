@@ -14,6 +14,6 @@ mod syntax;
 mod tests;
 mod words;
 
-pub use laws::one_answer;
+pub use laws::{first_is_least, names_are_short, one_answer};
 pub use run::run_tool;
 pub use status::Status;

@@ -140,7 +140,10 @@ fn text_of_system(alloc: Global, system: &SystemText) -> Result<Vec<u8>, ModelEr
         return Err(ModelError::Broken(violation));
     }
     let model = model_of(alloc, system, &tables)?;
-    Ok(compile(alloc, &model)?)
+    match compile(alloc, &model) {
+        Ok(text) => Ok(text),
+        Err(NoMemory) => Err(ModelError::NoMemory),
+    }
 }
 
 /// F1 at the first token.
