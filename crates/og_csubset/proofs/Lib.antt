@@ -31,3 +31,4 @@ pub mod Recognized
 pub mod Viable
 pub mod Judged
 pub mod OneAnswer
+pub mod FairParts
