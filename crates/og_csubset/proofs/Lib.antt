@@ -32,3 +32,4 @@ pub mod Viable
 pub mod Judged
 pub mod OneAnswer
 pub mod WrongExamples
+pub mod FairParts

@@ -13,7 +13,7 @@ pub use run_examples::{
     hand_written_text_runs, load_rules_are_reported, single_statements_compute,
 };
 pub use run_laws::{
-    agreeing_programs_show_the_same, code_within_64_bits, ended_program_stays,
+    agreeing_programs_show_the_same, code_within_64_bits, ended_program_stays, fairness_of_parts,
     larger_models_show_the_same, loaded_programs_are_steady, more_instructions_go_on,
     more_statements_go_on, statements_split, values_of_parts,
 };

@@ -24,12 +24,10 @@ pub fn first_is_least()
     ensures among { (violations : List Violation) (v : Violation) → first_of violations ≡ Some v → Contains violations v }
     ensures least { (violations : List Violation) (v w : Violation) → first_of violations ≡ Some v → Contains violations w → comes_before w v ≡ false }
     ensures none { (violations : List Violation) → (first_of violations ≡ None) ↔ (violations ≡ []) }
-{
-}
+{}
 
 /// The names of a file whose tokens stand in their places are short.
 pub fn names_are_short()
     ensures { (system : SystemText) (tokens : List Spanned) (file : ℕ) (bytes : List ℕ) (at : ℕ) →
         Spells system tokens → AreInPlace file bytes at tokens → HasShortNames system }
-{
-}
+{}
