@@ -57,27 +57,33 @@ fn an_accepted_model_gives_c_that_begins_with_the_include_line(
     Ok(())
 }
 
+/// The words of a line, with a blank between two of them.
+fn words_of(alloc: Global, line: &str) -> Result<Vec<String>, AllocError> {
+    let mut words = Vec::new(alloc);
+    for word in line.split(' ') {
+        words.push(String::from_str(alloc, word)?)?;
+    }
+    Ok(words)
+}
+
 #[test]
 fn other_words_are_no_command(rt: HostRuntime) -> Result<(), Fail> {
-    for words in [
-        [].as_slice(),
-        ["cc"].as_slice(),
-        ["CC", "m.pr"].as_slice(),
-        ["cc", ".pr"].as_slice(),
-        ["cc", "m.PR"].as_slice(),
-        ["cc", "m.pr "].as_slice(),
-        ["cc", "m.pr", "m.pr"].as_slice(),
-        ["run", "m.pr"].as_slice(),
+    for line in [
+        "",
+        "cc",
+        "CC m.pr",
+        "cc .pr",
+        "cc m.PR",
+        "cc m.pr ",
+        "cc m.pr m.pr",
+        "run m.pr",
     ] {
         let alloc = rt.alloc();
-        let mut list = Vec::new(alloc);
-        for word in words {
-            list.push(String::from_str(alloc, word)?)?;
-        }
+        let words = words_of(alloc, line)?;
         let mut store = MemStore::new(Vec::new(alloc), Vec::new(alloc));
         let mut sink = MemSink::new(alloc, Vec::new(alloc));
         assert_eq!(rt;
-            run_tool(alloc, &list, &mut store, &mut sink),
+            run_tool(alloc, &words, &mut store, &mut sink),
             Status::Usage
         );
         assert!(rt; sink.bytes.is_empty() && sink.calls == 0 && store.calls == 0);
