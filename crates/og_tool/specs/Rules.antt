@@ -155,7 +155,7 @@ repeated_handlers_from handled (h ∷ hs) = violated_if (is_handled handled h.0)
 abbrev pub repeated_handlers : Tables → SystemText → List Violation
 repeated_handlers tables system = repeated_handlers_from [] (flat_map (handlers_of tables) system.states)
 
--- M1: more than 1,000 states. M2: more than 200 signals
+-- M1: more than 1,000 states. M2: more than 200 signals. Each name counts once
 abbrev pub limit_violations : Tables → SystemText → List Violation
 limit_violations tables system = violated_if (nat_lt 1000 (length tables.states)) M1 system.process ++ violated_if (nat_lt 200 (length tables.signals)) M2 system.process
 
