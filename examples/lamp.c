@@ -16,19 +16,19 @@ void transition(void)
     case INT64_C(2): goto bright__press__3;
     default: goto end__8;
     }
-start__1:
+start__1:;
     goto enter__dark__4;
-dark__press__2:
+dark__press__2:;
     goto enter__bright__6;
-bright__press__3:
+bright__press__3:;
     goto enter__dark__4;
-enter__dark__4:
+enter__dark__4:;
     r = INT64_C(0);
     return;
-enter__bright__6:
+enter__bright__6:;
     r = INT64_C(1);
     return;
-end__8:
+end__8:;
     return;
 }
 
@@ -48,14 +48,14 @@ void on_press(void)
     case INT64_C(1): goto bright__press__5;
     default: goto end__8;
     }
-dark__press__2:
+dark__press__2:;
     chosen = INT64_C(1);
     transition();
     return;
-bright__press__5:
+bright__press__5:;
     chosen = INT64_C(2);
     transition();
     return;
-end__8:
+end__8:;
     return;
 }
