@@ -1,5 +1,5 @@
 -- Whether an expression of flat code is a number, and how deep its text goes, are made of what its parts are.
-use Rattle.std.proofs.Common.{◌≡◌, ℕ, zero, suc, ◌+◌, ◌≤◌, max, List, [], ◌∷◌, Bool, cond, ◌&&◌, Option, Some, None, slice_get, refl, sym, ap, ◌∙◌, arith}
+use Rattle.std.proofs.Common.{◌≡◌, ℕ, zero, suc, ◌+◌, ◌≤◌, List, [], ◌∷◌, Bool, cond, ◌&&◌, Option, Some, None, slice_get, refl, ap, ◌∙◌, arith}
 use Rattle.og_types.specs.declared.Sort.{Sort}
 use Rattle.og_ir.specs.declared.Ir.{Ir}
 use Rattle.og_ir.specs.declared.Slot.{Slot, size-Slot}

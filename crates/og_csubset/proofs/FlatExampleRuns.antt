@@ -10,8 +10,9 @@ use Rattle.og_ir.specs.Reading.{value_in, blank}
 use Rattle.og_ir.specs.FlatSteps.{value_of}
 use Rattle.og_csubset.specs.Reads.{event_of, end_of}
 use Rattle.og_csubset.specs.FlatRun.{flat, flat_in_64_bits}
+use Rattle.og_csubset.specs.Paced.{paced}
 use Rattle.og_csubset.specs.Fair.{is_number, depth_of}
-use Rattle.og_csubset.specs.FlatExamples.{NumbersAreUnbounded, NumbersOf64Bits, IndexIsOutside, DivisorIsZero, CopiesItems, CallsTwice, CutInACall, TableTakesACase, TableTakesTheLast, CountsAndLeavesItsType, CountingIsFair}
+use Rattle.og_csubset.specs.FlatExamples.{NumbersAreUnbounded, NumbersOf64Bits, IndexIsOutside, DivisorIsZero, CopiesItems, CallsTwice, CutInACall, NotYetShown, ShownByTheSixth, TableTakesACase, TableTakesTheLast, CountsAndLeavesItsType, CountingIsFair}
 use denote.Hole.Rolled
 use denote.Hole.Carrier
 
@@ -42,6 +43,14 @@ calls_twice = refl
 pub cut_in_a_call : CutInACall
 unfolding trees flat flat_in_64_bits event_of end_of value_in blank value_of is_number depth_of digits out-Flat roll-Flat out-Value block.the_depth Rolled.depth Carrier.fold Carrier.roll Carrier.out block.shape-the_row-Step2-0 block.hidden-the_row-Step2-0 block.shown-the_row-Step2-0 block.shape-the_row-Flat-1 block.hidden-the_row-Flat-1 block.shown-the_row-Flat-1 Carrier.hidden Carrier.shown
 cut_in_a_call = refl
+
+pub not_yet_shown : NotYetShown
+unfolding trees paced flat flat_in_64_bits event_of end_of value_in blank value_of is_number depth_of digits out-Flat roll-Flat out-Value block.the_depth Rolled.depth Carrier.fold Carrier.roll Carrier.out block.shape-the_row-Step2-0 block.hidden-the_row-Step2-0 block.shown-the_row-Step2-0 block.shape-the_row-Flat-1 block.hidden-the_row-Flat-1 block.shown-the_row-Flat-1 Carrier.hidden Carrier.shown
+not_yet_shown = refl
+
+pub shown_by_the_sixth : ShownByTheSixth
+unfolding trees paced flat flat_in_64_bits event_of end_of value_in blank value_of is_number depth_of digits out-Flat roll-Flat out-Value block.the_depth Rolled.depth Carrier.fold Carrier.roll Carrier.out block.shape-the_row-Step2-0 block.hidden-the_row-Step2-0 block.shown-the_row-Step2-0 block.shape-the_row-Flat-1 block.hidden-the_row-Flat-1 block.shown-the_row-Flat-1 Carrier.hidden Carrier.shown
+shown_by_the_sixth = refl
 
 pub table_takes_a_case : TableTakesACase
 unfolding trees flat flat_in_64_bits event_of end_of value_in blank value_of is_number depth_of digits out-Flat roll-Flat out-Value block.the_depth Rolled.depth Carrier.fold Carrier.roll Carrier.out block.shape-the_row-Step2-0 block.hidden-the_row-Step2-0 block.shown-the_row-Step2-0 block.shape-the_row-Flat-1 block.hidden-the_row-Flat-1 block.shown-the_row-Flat-1 Carrier.hidden Carrier.shown

@@ -10,6 +10,7 @@ pub mod Sizes
 pub mod PlainTexts
 pub mod Depth
 pub mod MachineRuns
+pub mod PacedRuns
 pub mod RunLaws
 pub mod BoundedRuns
 pub mod ExampleRuns

@@ -18,6 +18,7 @@ use Rattle.og_ir.specs.declared.FlatOp.TheVariants as op
 use Rattle.og_ir.specs.declared.FlatRel.TheVariants as rel
 use Rattle.og_csubset.specs.Examples.{word, type, with_variables, go, shows, at_rest, num}
 use Rattle.og_csubset.specs.FlatRun.{flat, flat_in_64_bits}
+use Rattle.og_csubset.specs.Paced.{paced}
 use Rattle.og_csubset.specs.Fair.{Fair}
 
 abbrev pub cell : List ℕ → SlotDef
@@ -114,6 +115,16 @@ CallsTwice = start_of (Call 0 ∷ Call 0 ∷ []) ≡ shows (num 2 ∷ num 2 ∷ 
 -- a call is one step; the first event is the third, and the end of the function the fourth
 abbrev pub CutInACall : Type 0
 CutInACall = flat (code (Call 0 ∷ Call 0 ∷ []) []) with_variables [] 4 ≡ shows (num 2 ∷ []) Past ∷ []
+
+-- with two statements for each instruction the first event is shown by the sixth
+abbrev pub at_half_speed : ℕ → List Shown
+at_half_speed statements = paced (λ function place. 2) (code (Call 0 ∷ Call 0 ∷ []) []) with_variables [] statements
+
+abbrev pub NotYetShown : Type 0
+NotYetShown = at_half_speed 5 ≡ shows [] Past ∷ []
+
+abbrev pub ShownByTheSixth : Type 0
+ShownByTheSixth = at_half_speed 6 ≡ shows (num 2 ∷ []) Past ∷ []
 
 -- a table over x, whose last place is for all other numbers
 abbrev pub chooses : ℕ → List Instr

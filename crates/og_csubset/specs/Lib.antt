@@ -18,3 +18,4 @@ pub mod Extension
 pub mod Wrong
 pub mod Forms
 pub mod Refusals
+pub mod Paced

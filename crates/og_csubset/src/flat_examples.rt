@@ -1,7 +1,7 @@
 //! Flat code over a small model, with what it shows. The definitions of the examples are the texts in
 //! specs/FlatExamples.antt.
 
-ghost use Rattle.og_csubset.specs.FlatExamples.{NumbersAreUnbounded, NumbersOf64Bits, IndexIsOutside, DivisorIsZero, CopiesItems, CallsTwice, CutInACall, TableTakesACase, TableTakesTheLast, CountsAndLeavesItsType, CountingIsFair};
+ghost use Rattle.og_csubset.specs.FlatExamples.{NumbersAreUnbounded, NumbersOf64Bits, IndexIsOutside, DivisorIsZero, CopiesItems, CallsTwice, CutInACall, NotYetShown, ShownByTheSixth, TableTakesACase, TableTakesTheLast, CountsAndLeavesItsType, CountingIsFair};
 
 /// Flat code computes, copies, chooses, calls and ends as worked out by hand, and an example of code that can be printed.
 pub fn flat_code_runs()
@@ -12,6 +12,8 @@ pub fn flat_code_runs()
     ensures copies_items { CopiesItems }
     ensures calls_twice { CallsTwice }
     ensures cut_in_a_call { CutInACall }
+    ensures not_yet_shown { NotYetShown }
+    ensures shown_by_the_sixth { ShownByTheSixth }
     ensures table_takes_a_case { TableTakesACase }
     ensures table_takes_the_last { TableTakesTheLast }
     ensures counts_and_leaves_its_type { CountsAndLeavesItsType }

@@ -15,7 +15,7 @@ pub use run_examples::{
 pub use run_laws::{
     agreeing_programs_show_the_same, code_within_64_bits, ended_program_stays, fairness_of_parts,
     larger_models_show_the_same, loaded_programs_are_steady, more_instructions_go_on,
-    more_statements_go_on, statements_split, values_of_parts,
+    more_statements_go_on, pace_of_one, statements_split, values_of_parts,
 };
 pub use spelling_laws::{
     brackets, least_number, nesting_counts, one_answer, one_deep_place, one_list_of_tokens,

@@ -14,6 +14,7 @@ ghost use Rattle.og_csubset.specs.Loading.{number_by, is_number};
 ghost use Rattle.og_csubset.specs.Step.{cstep, value_by, value_of};
 ghost use Rattle.og_csubset.specs.Run.{c_machine, c};
 ghost use Rattle.og_csubset.specs.FlatRun.{flat, flat_in_64_bits};
+ghost use Rattle.og_csubset.specs.Paced.{paced};
 ghost use Rattle.og_csubset.specs.Loading.{Loads};
 ghost use Rattle.og_csubset.specs.Kinds.{first_globals};
 ghost use Rattle.og_csubset.specs.Forms.{HaveForms, IsSteady};
@@ -119,4 +120,10 @@ pub fn fairness_of_parts()
     ensures number { (sorts : List Sort) (ir : Code) (e : Computation)
         → fair.is_number sorts ir e ≡ fair.number_by (fair.is_number sorts ir) sorts ir (out-Flat e) }
     ensures depth { (e : Computation) → fair.depth_of e ≡ fair.depth_by fair.depth_of (out-Flat e) }
+{}
+
+/// Where each instruction takes one statement, code shows what it shows instruction by instruction.
+pub fn pace_of_one()
+    ensures { (ir : Code) (model : Process) (stimuli : List Stimulus) (n : ℕ)
+        → paced (λ function place. 1) ir model stimuli n ≡ flat_in_64_bits ir model stimuli n }
 {}

@@ -16,4 +16,3 @@ pub mod WellSorted
 pub mod Resolved
 pub mod Rules
 pub mod WellFormed
-pub mod Sample

@@ -1,4 +1,7 @@
 //! What holds of the meaning of every model, whatever its tree. Each function does nothing, and its contract is the law.
+ghost use Rattle.std.specs.Prelude.{◌≡◌};
+ghost use Rattle.og_model.specs.declared.Scope.{Scope, out-Scope};
+ghost use Rattle.og_model.specs.Regions.{insides_of, states_insides};
 ghost use Rattle.og_model.specs.Laws.{FuelIsFree, UnitsNeverGrow, MoreUnitsGoOn, EnoughUnitsAreEnough, EachIsAnswered, StoppedForGood, WorthIsByParts, TailsAreByParts};
 
 /// The fuel by which the meaning recurses changes nothing once it covers the units.
@@ -42,4 +45,9 @@ pub fn worth_is_by_parts()
 /// So does what stands behind a label.
 pub fn tails_are_by_parts()
     ensures { TailsAreByParts }
+{}
+
+/// A scope has the leaves and regions of its states, one after the other.
+pub fn scopes_have_what_their_states_have()
+    ensures { (m : Scope) → insides_of m ≡ states_insides insides_of (out-Scope m).states }
 {}

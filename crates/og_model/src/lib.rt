@@ -1,19 +1,8 @@
 //! The resolved model of a process: its data, its procedures and its nested states.
 #![tactic(auto)]
 
-pub mod laws;
-mod numbers;
-
-pub use numbers::{
-    bulk_of_nested_states, bulk_of_two_states, bulk_with_a_call, data_is_well_formed,
-    first_values_are_in_their_types, further_forms, inlined_size_of_two_states,
-    inlined_size_with_a_call, names_have_single_underscores, nested_states_are_well_formed,
-    processes_have_a_start, regions_of_nested_states, regions_of_two_states,
-    scopes_have_what_their_states_have, signals_are_handled_once, states_are_there,
-    two_states_are_well_formed,
-};
-
 mod copy;
+pub mod laws;
 
 use og_base::Place;
 use og_names::{NameId, Names};

@@ -7,3 +7,4 @@ pub mod Aggregations
 pub mod Timers
 pub mod Continuous
 pub mod Data
+pub mod Sample

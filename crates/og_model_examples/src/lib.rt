@@ -5,6 +5,7 @@
 pub mod accepted;
 pub mod data;
 pub mod nested;
+pub mod numbers;
 pub mod procedures;
 pub mod sizes;
 pub mod states;

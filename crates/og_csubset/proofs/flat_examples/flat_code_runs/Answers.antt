@@ -1,4 +1,4 @@
-use Rattle.og_csubset.proofs.FlatExampleRuns.{numbers_are_unbounded, numbers_of_64_bits, index_is_outside, divisor_is_zero, copies_items, calls_twice, cut_in_a_call, table_takes_a_case, table_takes_the_last, counts_and_leaves_its_type, counting_is_fair}
+use Rattle.og_csubset.proofs.FlatExampleRuns.{numbers_are_unbounded, numbers_of_64_bits, index_is_outside, divisor_is_zero, copies_items, calls_twice, cut_in_a_call, not_yet_shown, shown_by_the_sixth, table_takes_a_case, table_takes_the_last, counts_and_leaves_its_type, counting_is_fair}
 use Rattle.og_csubset.proofs.flat_examples.flat_code_runs.Goals as goal
 
 pub returns-clause-numbers_are_unbounded : goal.returns-clause-numbers_are_unbounded
@@ -21,6 +21,12 @@ returns-clause-calls_twice c = calls_twice
 
 pub returns-clause-cut_in_a_call : goal.returns-clause-cut_in_a_call
 returns-clause-cut_in_a_call c = cut_in_a_call
+
+pub returns-clause-not_yet_shown : goal.returns-clause-not_yet_shown
+returns-clause-not_yet_shown c = not_yet_shown
+
+pub returns-clause-shown_by_the_sixth : goal.returns-clause-shown_by_the_sixth
+returns-clause-shown_by_the_sixth c = shown_by_the_sixth
 
 pub returns-clause-table_takes_a_case : goal.returns-clause-table_takes_a_case
 returns-clause-table_takes_a_case c = table_takes_a_case

@@ -1,27 +1,19 @@
-//! A law of regions; and examples of regions, sizes and well-formed models, computed from their definitions.
+//! Examples of regions, sizes and well-formed models, computed from their definitions.
 
 ghost use Rattle.std.specs.Prelude.{◌≡◌, ◌+◌, ◌*◌, List, [], ◌∷◌, true, false};
-ghost use Rattle.og_model.specs.declared.Scope.{Scope, out-Scope};
 ghost use Rattle.og_model.specs.RegionTypes.{Leaf, Region};
-ghost use Rattle.og_model.specs.Regions.{insides_of, regions, states_insides};
+ghost use Rattle.og_model.specs.Regions.{regions};
 ghost use Rattle.og_model.specs.Size.{bulk, inlined};
 ghost use Rattle.og_model.specs.WellFormed.{IsWellFormed};
 ghost use Rattle.og_model.specs.Forms.{UsesBasicStatesOnly};
-ghost use Rattle.og_model.specs.Sample.{double_underscore, first_value_outside, nested, state_not_there, twice_handled, two_states, with_data, without_start, leaf, region};
-
-/// A scope has the leaves and regions of its states, one after the other.
-pub fn scopes_have_what_their_states_have()
-    ensures { (m : Scope) → insides_of m ≡ states_insides insides_of (out-Scope m).states }
-{}
+ghost use Rattle.og_model_examples.specs.Sample.{double_underscore, first_value_outside, nested, state_not_there, twice_handled, two_states, with_data, without_start, leaf, region};
 
 /// Two basic states are two leaves of one region.
-#[tactic(auto, unfolding(crate::proofs::Computing::trees))]
 pub fn regions_of_two_states()
     ensures { regions two_states ≡ region [] (leaf (3 ∷ []) true ∷ leaf (4 ∷ []) true ∷ []) ∷ [] }
 {}
 
 /// The leaves of a composite state are leaves of its region; each partition is a region of its own.
-#[tactic(auto, unfolding(crate::proofs::Computing::trees))]
 pub fn regions_of_nested_states()
     ensures { regions nested ≡
         region [] (leaf (2 ∷ 3 ∷ []) true ∷ leaf (2 ∷ 4 ∷ []) false ∷ leaf (10 ∷ []) true ∷ [])
@@ -30,51 +22,43 @@ pub fn regions_of_nested_states()
 {}
 
 /// A start, a handler, an output and two endings.
-#[tactic(auto, unfolding(crate::proofs::Computing::trees))]
 pub fn inlined_size_of_two_states()
     ensures { inlined two_states ≡ 5 }
 {}
 
 /// The called procedure counts 4, the call and its argument 3, the decision 6, the handlers and the condition 5, the start 1 and
 /// two endings 2.
-#[tactic(auto, unfolding(crate::proofs::Computing::trees))]
 pub fn inlined_size_with_a_call()
     ensures { inlined with_data ≡ 21 }
 {}
 
 /// Four times the inlined size, two states and two signals.
-#[tactic(auto, unfolding(crate::proofs::Computing::trees))]
 pub fn bulk_of_two_states()
     ensures { bulk two_states ≡ 4 * (5 + 4) }
 {}
 
 /// The depths of starts, states, handlers and partitions are 23 together.
-#[tactic(auto, unfolding(crate::proofs::Computing::trees))]
 pub fn bulk_of_nested_states()
     ensures { bulk nested ≡ 4 * (10 + 23 + 10) }
 {}
 
 /// A variable of an input, a selector and the call's 4 cells and one value count more, and there are 9 cells.
-#[tactic(auto, unfolding(crate::proofs::Computing::trees))]
 pub fn bulk_with_a_call()
     ensures { bulk with_data ≡ 4 * (28 + 9 + 2) }
 {}
 
 /// Two basic states are accepted, and use basic states only.
-#[tactic(auto, unfolding(crate::proofs::Computing::trees))]
 pub fn two_states_are_well_formed()
     ensures accepted { IsWellFormed two_states }
     ensures basic { UsesBasicStatesOnly two_states }
 {}
 
 /// States in states are accepted.
-#[tactic(auto, unfolding(crate::proofs::Computing::trees))]
 pub fn nested_states_are_well_formed()
     ensures { IsWellFormed nested }
 {}
 
 /// Data and a procedure are accepted.
-#[tactic(auto, unfolding(crate::proofs::Computing::trees))]
 pub fn data_is_well_formed()
     ensures { IsWellFormed with_data }
 {}

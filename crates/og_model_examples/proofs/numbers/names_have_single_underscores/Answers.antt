@@ -1,6 +1,6 @@
 use Rattle.std.proofs.lemmas.Bool.{false≢true}
 use Rattle.og_model.proofs.Computing.{trees}
-use Rattle.og_model.proofs.numbers.names_have_single_underscores.Goals as goal
+use Rattle.og_model_examples.proofs.numbers.names_have_single_underscores.Goals as goal
 
 pub returns : goal.returns
 unfolding trees

@@ -1,6 +1,6 @@
 use Rattle.std.proofs.lemmas.Bool.{false≢true}
 use Rattle.og_model.proofs.Computing.{trees}
-use Rattle.og_model.proofs.numbers.further_forms.Goals as goal
+use Rattle.og_model_examples.proofs.numbers.further_forms.Goals as goal
 
 pub returns-clause-states : goal.returns-clause-states
 unfolding trees

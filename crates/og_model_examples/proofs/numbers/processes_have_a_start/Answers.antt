@@ -1,6 +1,6 @@
 use Rattle.std.proofs.lemmas.Bool.{false≢true}
 use Rattle.og_model.proofs.Computing.{trees}
-use Rattle.og_model.proofs.numbers.processes_have_a_start.Goals as goal
+use Rattle.og_model_examples.proofs.numbers.processes_have_a_start.Goals as goal
 
 pub returns : goal.returns
 unfolding trees
