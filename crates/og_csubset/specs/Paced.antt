@@ -2,9 +2,9 @@
 -- A pace says how many, for each place of each function, the place behind the last instruction being the function's end.
 -- What an instruction does is done with the last of its statements. At every pace code shows the same in the end; how far
 -- it has come after a number of statements depends on the pace.
-use Rattle.std.specs.Prelude.{ℕ, zero, suc, ◌+◌, ◌≤◌, List, [], ◌∷◌, Option, if◌then◌else◌, nat_lt, length}
+use Rattle.std.specs.Prelude.{◌≡◌, ℕ, zero, suc, ◌+◌, ◌≤◌, List, [], ◌∷◌, Option, false, if◌then◌else◌, nat_lt, length}
 use Rattle.og_model.specs.declared.Model.{Model}
-use Rattle.og_model.specs.Shown.{Shown, Stimulus}
+use Rattle.og_model.specs.Shown.{Shown, Stimulus, has_stuck}
 use Rattle.og_ir.specs.declared.Ir.{Ir}
 use Rattle.og_ir.specs.declared.FlatFn.{FlatFn}
 use Rattle.og_ir.specs.Cells.{Cells}
@@ -12,7 +12,8 @@ use Rattle.og_ir.specs.Arithmetic.{in_64_bits}
 use Rattle.og_ir.specs.Steps.{Config, Running, Over, Broken, Ran, quiet, and_then}
 use Rattle.og_ir.specs.FlatSteps.{first_slots}
 use Rattle.og_csubset.specs.Run.{Machine, shown_of, all_stimuli}
-use Rattle.og_csubset.specs.FlatRun.{flat_machine}
+use Rattle.og_csubset.specs.FlatRun.{flat_machine, flat_in_64_bits}
+use Rattle.og_csubset.specs.Agreement.{AreStimuli}
 
 -- how many statements stand for the instruction of a function at a place
 abbrev pub Pace : Type 0
@@ -59,3 +60,9 @@ paced_size_from pace k (f ∷ functions) = statements_below (pace k) (length f.c
 -- the statements of all functions, with their ends
 abbrev pub paced_size : Pace → Ir → ℕ
 paced_size pace ir = paced_size_from pace 0 ir.functions
+
+-- the code is never stuck, whatever comes: each number that it computes is one of 64 bits, each index lies inside its array and
+-- no divisor is zero
+abbrev pub IsSafe : Ir → Model → Type 0
+IsSafe ir model =
+    (stimuli : List Stimulus) → AreStimuli model stimuli → (steps : ℕ) → has_stuck (flat_in_64_bits ir model stimuli steps) ≡ false
