@@ -2,84 +2,150 @@
 //! instruction a statement, behind a label where something jumps to it.
 #![tactic(auto)]
 
+ghost use Rattle.std.specs.Prelude.{◌≡◌, ◌++◌, ◌<◌, ◌^◌, IfOk, OnOk, map, length};
+ghost use Rattle.og_csubset.specs.Fair.{Fair};
+ghost use Rattle.og_ir.specs.CellsOnly.{UsesCellsOnly};
+ghost use Rattle.og_cemit.specs.Emitted.{statements_at, statements_from, body_of as body_at, function_of, global_of, event_if, events_from, used, program_of, AreShort};
+ghost use Rattle.og_cemit.specs.Program.{IsProgramOf};
+
+mod marks;
 mod statement;
 
-use crate::statement::{body_of, copy_word};
-use og_csubset::{CFunction, CGlobal, CProgram, CType};
-use og_ir::{Instr, Ir};
+use crate::marks::{is_marked, targets_of, used_of};
+use crate::statement::{label_of, statement_of};
+use og_csubset::{CFunction, CGlobal, CProgram, CStmt, CType};
+use og_ir::{FlatFn, Instr, Ir};
 use og_model::Model;
 use og_names::{NoMemory, Word};
 use sqlite_items::Items;
 use std::alloc::Global;
 
 /// The program of flat code. It declares the events that the code shows.
-pub fn emit(alloc: Global, ir: &Ir, _model: &Model) -> Result<CProgram, NoMemory> {
+pub fn emit(alloc: Global, ir: &Ir, model: &Model) -> Result<CProgram, NoMemory>
+    requires fair { Fair ir.now model.now }
+    requires cells { UsesCellsOnly ir.now }
+    ensures { IfOk result (IsProgramOf ir.now model.now) }
+{
+    let program = written(alloc, ir)?;
+    Ok(program)
+}
+
+fn written(alloc: Global, ir: &Ir) -> Result<CProgram, NoMemory>
+    ensures program { IfOk result (λ program. program ≡ program_of ir.now) }
+    ensures short { OnOk result (AreShort ir.now.functions) }
+{
     Ok(CProgram {
         structs: Items::new(alloc),
         globals: globals_of(alloc, ir)?,
         events: events_of(alloc, ir)?,
-        functions: functions_of(alloc, ir)?,
+        functions: functions_of(alloc, ir, ir.functions.as_slice())?,
     })
 }
 
-fn globals_of(alloc: Global, ir: &Ir) -> Result<Items<CGlobal>, NoMemory> {
+fn globals_of(alloc: Global, ir: &Ir) -> Result<Items<CGlobal>, NoMemory>
+    ensures { IfOk result (λ globals. globals ≡ map global_of ir.now.slots) }
+{
     let mut globals = Items::new(alloc);
     for slot in ir.slots.as_slice() {
-        let global = CGlobal {
+        globals.push(CGlobal {
             kind: CType::Int64,
-            name: copy_word(alloc, &slot.name)?,
-        };
-        if globals.push(global).is_err() {
-            return Err(NoMemory);
-        }
+            name: slot.name.copy(alloc)?,
+        })?;
     }
     Ok(globals)
 }
 
-/// Marks the events that an instruction shows.
-fn mark_events(used: &mut Vec<bool>, code: &[Instr]) {
-    for instruction in code {
-        if let Instr::Emit(event) = instruction {
-            let event = *event as usize;
-            if event < used.len() {
-                used[event] = true;
-            }
-        }
-    }
+fn events_of(alloc: Global, ir: &Ir) -> Result<Items<Word>, NoMemory>
+    ensures { IfOk result (λ events. events ≡ events_from (used ir.now) 0 ir.now.events) }
+{
+    let marks = used_of(alloc, ir)?;
+    marked_events(alloc, marks.as_slice(), ir.events.as_slice())
 }
 
-fn no_marks(alloc: Global, count: usize) -> Result<Vec<bool>, NoMemory> {
-    match vec![in alloc; false; count] {
-        Ok(marks) => Ok(marks),
-        Err(_) => Err(NoMemory),
-    }
-}
-
-fn events_of(alloc: Global, ir: &Ir) -> Result<Items<Word>, NoMemory> {
-    let mut used = no_marks(alloc, ir.events.len())?;
-    for function in ir.functions.as_slice() {
-        mark_events(&mut used, function.code.as_slice());
-    }
+fn marked_events(alloc: Global, marks: &[bool], names: &[Word]) -> Result<Items<Word>, NoMemory>
+    ensures { IfOk result (λ events. events ≡ events_from marks.now 0 names.now) }
+{
     let mut events = Items::new(alloc);
-    for (number, name) in ir.events.as_slice().iter().enumerate() {
-        let shown = number < used.len() && used[number];
-        if shown && events.push(copy_word(alloc, name)?).is_err() {
-            return Err(NoMemory);
-        }
+    for (number, name) in names.iter().enumerate() {
+        push_event(alloc, &mut events, is_marked(marks, number), name)?;
     }
     Ok(events)
 }
 
-fn functions_of(alloc: Global, ir: &Ir) -> Result<Items<CFunction>, NoMemory> {
+fn push_event(
+    alloc: Global,
+    events: &mut Items<Word>,
+    shown: bool,
+    name: &Word,
+) -> Result<(), NoMemory>
+    ensures { OnOk result (events.new ≡ events.old ++ event_if shown name.now) }
+{
+    if shown {
+        events.push(name.copy(alloc)?)?;
+    }
+    Ok(())
+}
+
+fn functions_of(alloc: Global, ir: &Ir, code: &[FlatFn]) -> Result<Items<CFunction>, NoMemory>
+    ensures functions { IfOk result (λ functions. functions ≡ map (function_of ir.now) code.now) }
+    ensures short { OnOk result (AreShort code.now) }
+{
     let mut functions = Items::new(alloc);
-    for function in ir.functions.as_slice() {
-        let made = CFunction {
-            name: copy_word(alloc, &function.name)?,
+    for function in code {
+        functions.push(CFunction {
+            name: function.name.copy(alloc)?,
             body: body_of(alloc, ir, function)?,
-        };
-        if functions.push(made).is_err() {
-            return Err(NoMemory);
-        }
+        })?;
     }
     Ok(functions)
+}
+
+fn body_of(alloc: Global, ir: &Ir, function: &FlatFn) -> Result<Items<CStmt>, NoMemory>
+    ensures body { IfOk result (λ body. body ≡ body_at ir.now function.now) }
+    ensures short { OnOk result (length function.now.code < 2 ^ 64) }
+{
+    let marks = targets_of(alloc, function.code.as_slice())?;
+    statements_of(
+        alloc,
+        ir,
+        function,
+        marks.as_slice(),
+        function.code.as_slice(),
+    )
+}
+
+/// The statements of the code of a function, where marks say which places something jumps to.
+fn statements_of(
+    alloc: Global,
+    ir: &Ir,
+    function: &FlatFn,
+    marks: &[bool],
+    code: &[Instr],
+) -> Result<Items<CStmt>, NoMemory>
+    ensures { IfOk result (λ body. body ≡ statements_from ir.now function.now marks.now 0 code.now) }
+{
+    let mut body = Items::new(alloc);
+    for (place, instruction) in code.iter().enumerate() {
+        push_statements(alloc, &mut body, ir, function, marks, place, instruction)?;
+    }
+    Ok(body)
+}
+
+/// The statement of an instruction, behind a label where something jumps to it.
+fn push_statements(
+    alloc: Global,
+    body: &mut Items<CStmt>,
+    ir: &Ir,
+    function: &FlatFn,
+    marks: &[bool],
+    place: usize,
+    instruction: &Instr,
+) -> Result<(), NoMemory>
+    ensures { OnOk result (body.new ≡ body.old ++ statements_at ir.now function.now marks.now place instruction.now) }
+{
+    if is_marked(marks, place) {
+        body.push(CStmt::Label(label_of(alloc, function, place)?))?;
+    }
+    body.push(statement_of(alloc, ir, function, instruction)?)?;
+    Ok(())
 }

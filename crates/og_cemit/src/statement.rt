@@ -1,4 +1,7 @@
 //! Statements of instructions.
+ghost use Rattle.std.specs.Prelude.{◌≡◌, ◌++◌, [], ◌∷◌, IfOk, OnOk, map, slice_get};
+ghost use Rattle.og_cemit.specs.Emitted.{slot_word, label_at, hint, place_at, operator_of as operator_at, relation_of as relation_at, number_of as number_at, test_of as test_at, case_at, statement_at};
+
 use itoa::Buffer;
 use og_csubset::{CCase, CExpr, COp, CPlace, CRel, CStmt, CTest};
 use og_ir::{Case, Flat, FlatFn, FlatOp, FlatRel, Instr, Ir, Slot, Test};
@@ -6,110 +9,15 @@ use og_names::{NoMemory, Word};
 use sqlite_items::{Boxed, Items};
 use std::alloc::Global;
 
-pub fn copy_word(alloc: Global, word: &Word) -> Result<Word, NoMemory> {
-    word_of(alloc, word.bytes.as_slice())
-}
-
-fn word_of(alloc: Global, bytes: &[u8]) -> Result<Word, NoMemory> {
-    match Items::from_slice(alloc, bytes) {
-        Ok(bytes) => Ok(Word { bytes }),
-        Err(_) => Err(NoMemory),
-    }
-}
-
-/// The statements of a function.
-pub fn body_of(alloc: Global, ir: &Ir, function: &FlatFn) -> Result<Items<CStmt>, NoMemory> {
-    let code = function.code.as_slice();
-    let targets = targets_of(alloc, code)?;
-    let mut body = Items::new(alloc);
-    for (place, instruction) in code.iter().enumerate() {
-        if place < targets.len() && targets[place] {
-            push(&mut body, CStmt::Label(label_of(alloc, function, place)?))?;
-        }
-        push(&mut body, statement_of(alloc, ir, function, instruction)?)?;
-    }
-    Ok(body)
-}
-
-fn push(body: &mut Items<CStmt>, statement: CStmt) -> Result<(), NoMemory> {
-    match body.push(statement) {
-        Ok(()) => Ok(()),
-        Err(_) => Err(NoMemory),
-    }
-}
-
-/// For each place whether something jumps there.
-fn targets_of(alloc: Global, code: &[Instr]) -> Result<Vec<bool>, NoMemory> {
-    let Ok(mut targets) = vec![in alloc; false; code.len()] else {
-        return Err(NoMemory);
-    };
-    for instruction in code {
-        match instruction {
-            Instr::Branch(_, to) => mark(&mut targets, *to),
-            Instr::Goto(to) => mark(&mut targets, *to),
-            Instr::Table(_, cases, otherwise) => {
-                mark_cases(&mut targets, cases.as_slice());
-                mark(&mut targets, *otherwise);
-            }
-            _ => {}
-        }
-    }
-    Ok(targets)
-}
-
-fn mark(targets: &mut Vec<bool>, place: u32) {
-    let place = place as usize;
-    if place < targets.len() {
-        targets[place] = true;
-    }
-}
-
-fn mark_cases(targets: &mut Vec<bool>, cases: &[Case]) {
-    for case in cases {
-        mark(targets, case.to);
-    }
-}
-
-/// The label of a place: what the code there is for, then `__` and the place, so that no two labels meet.
-fn label_of(alloc: Global, function: &FlatFn, place: usize) -> Result<Word, NoMemory> {
-    let mut text = Vec::new(alloc);
-    let named = match function.labels.get(place) {
-        Some(label) => !label.bytes.is_empty(),
-        None => false,
-    };
-    if named {
-        put_hint(&mut text, function, place)?;
-    } else {
-        put(&mut text, b"at")?;
-    }
-    put(&mut text, b"__")?;
-    let mut buffer = Buffer::new();
-    put(&mut text, buffer.format(place).as_bytes())?;
-    Ok(Word {
-        bytes: Items::from_vec(text),
-    })
-}
-
-fn put_hint(text: &mut Vec<u8>, function: &FlatFn, place: usize) -> Result<(), NoMemory> {
-    match function.labels.get(place) {
-        Some(label) => put(text, label.bytes.as_slice()),
-        None => Ok(()),
-    }
-}
-
-fn put(text: &mut Vec<u8>, bytes: &[u8]) -> Result<(), NoMemory> {
-    match text.extend_from_slice(bytes) {
-        Ok(()) => Ok(()),
-        Err(_) => Err(NoMemory),
-    }
-}
-
-fn statement_of(
+/// The statement of an instruction. What the code names is there in fair code.
+pub fn statement_of(
     alloc: Global,
     ir: &Ir,
     function: &FlatFn,
     instruction: &Instr,
-) -> Result<CStmt, NoMemory> {
+) -> Result<CStmt, NoMemory>
+    ensures { IfOk result (λ statement. statement ≡ statement_at ir.now function.now instruction.now) }
+{
     match instruction {
         Instr::Set(slot, number) => Ok(CStmt::Assign(
             place_of(alloc, ir, slot)?,
@@ -130,63 +38,99 @@ fn statement_of(
             label_of(alloc, function, *otherwise as usize)?,
         )),
         Instr::Call(callee) => match ir.functions.get(*callee as usize) {
-            Some(callee) => Ok(CStmt::Call(copy_word(alloc, &callee.name)?)),
+            Some(callee) => Ok(CStmt::Call(callee.name.copy(alloc)?)),
             None => Ok(CStmt::Return),
         },
         Instr::Emit(event) => match ir.events.get(*event as usize) {
-            Some(event) => Ok(CStmt::Call(copy_word(alloc, event)?)),
+            Some(event) => Ok(CStmt::Call(event.copy(alloc)?)),
             None => Ok(CStmt::Return),
         },
         Instr::Back => Ok(CStmt::Return),
     }
 }
 
-fn cases_of(alloc: Global, function: &FlatFn, cases: &[Case]) -> Result<Items<CCase>, NoMemory> {
+fn cases_of(alloc: Global, function: &FlatFn, cases: &[Case]) -> Result<Items<CCase>, NoMemory>
+    ensures { IfOk result (λ made. made ≡ map (case_at function.now) cases.now) }
+{
     let mut made = Items::new(alloc);
     for case in cases {
-        let next = CCase {
+        made.push(CCase {
             value: case.value,
             label: label_of(alloc, function, case.to as usize)?,
-        };
-        if made.push(next).is_err() {
-            return Err(NoMemory);
-        }
+        })?;
     }
     Ok(made)
 }
 
-/// A slot is read and set whole until data has shapes.
-fn place_of(alloc: Global, ir: &Ir, slot: &Slot) -> Result<CPlace, NoMemory> {
-    let name = match ir.slots.get(slot.base as usize) {
-        Some(slot) => copy_word(alloc, &slot.name)?,
-        None => word_of(alloc, b"")?,
-    };
-    Ok(CPlace {
-        name,
-        path: Items::new(alloc),
+/// The label of a place: what the code there is for, then `__` and the place, so that no two labels meet.
+#[tactic(auto, unfolding(crate::specs::Emitted::label_text))]
+pub fn label_of(alloc: Global, function: &FlatFn, place: usize) -> Result<Word, NoMemory>
+    ensures { IfOk result (λ label. label ≡ label_at function.now place) }
+{
+    let mut text = hint_of(alloc, function, place)?;
+    let mut buffer = Buffer::new();
+    text.extend_from_slice(b"__")?;
+    text.extend_from_slice(buffer.format(place).as_bytes())?;
+    Ok(Word {
+        bytes: Items::from_vec(text),
     })
 }
 
-fn number_of(alloc: Global, ir: &Ir, number: &Flat) -> Result<CExpr, NoMemory> {
-    match number {
-        Flat::Number(number) => Ok(CExpr::Number(*number)),
-        Flat::Read(slot) => Ok(CExpr::Read(place_of(alloc, ir, slot)?)),
-        Flat::Op(op, left, right) => {
-            let left = boxed(alloc, number_of(alloc, ir, left.get())?)?;
-            let right = boxed(alloc, number_of(alloc, ir, right.get())?)?;
-            Ok(CExpr::Op(operator_of(*op), left, right))
+/// The word of a place, or `at` where there is none.
+fn hint_of(alloc: Global, function: &FlatFn, place: usize) -> Result<Vec<u8>, NoMemory>
+    ensures { IfOk result (λ text. text.items ≡ hint (slice_get function.now.labels place)) }
+{
+    match function.labels.get(place) {
+        None => Ok(Vec::from_slice(alloc, b"at")?),
+        Some(label) => {
+            if label.bytes.is_empty() {
+                Ok(Vec::from_slice(alloc, b"at")?)
+            } else {
+                Ok(Vec::from_slice(alloc, label.bytes.as_slice())?)
+            }
         }
     }
 }
 
-fn boxed(alloc: Global, expression: CExpr) -> Result<Boxed<CExpr>, NoMemory> {
-    match Boxed::new(alloc, expression) {
-        Ok(boxed) => Ok(boxed),
-        Err(_) => Err(NoMemory),
+/// A slot is read and set whole until data has shapes.
+fn place_of(alloc: Global, ir: &Ir, slot: &Slot) -> Result<CPlace, NoMemory>
+    ensures { IfOk result (λ place. place ≡ place_at ir.now slot.now.base) }
+{
+    Ok(CPlace {
+        name: name_of(alloc, ir, slot.base)?,
+        path: Items::new(alloc),
+    })
+}
+
+fn name_of(alloc: Global, ir: &Ir, base: u32) -> Result<Word, NoMemory>
+    ensures { IfOk result (λ name. name ≡ slot_word (slice_get ir.now.slots base)) }
+{
+    match ir.slots.get(base as usize) {
+        Some(slot) => Ok(slot.name.copy(alloc)?),
+        None => Ok(Word {
+            bytes: Items::new(alloc),
+        }),
     }
 }
 
-fn operator_of(op: FlatOp) -> COp {
+#[tactic(auto, using(crate::proofs::Opens::opens))]
+fn number_of(alloc: Global, ir: &Ir, number: &Flat) -> Result<CExpr, NoMemory>
+    ensures { IfOk result (λ expression. expression ≡ number_at ir.now number.now) }
+{
+    match number {
+        Flat::Number(number) => Ok(CExpr::Number(*number)),
+        Flat::Read(slot) => Ok(CExpr::Read(place_of(alloc, ir, slot)?)),
+        Flat::Op(op, left, right) => Ok(CExpr::Op(
+            operator_of(*op),
+            Boxed::new(alloc, number_of(alloc, ir, left.get())?)?,
+            Boxed::new(alloc, number_of(alloc, ir, right.get())?)?,
+        )),
+    }
+}
+
+fn operator_of(op: FlatOp) -> COp
+    ensures { result ≡ operator_at op }
+{
     match op {
         FlatOp::Add => COp::Add,
         FlatOp::Sub => COp::Sub,
@@ -196,15 +140,19 @@ fn operator_of(op: FlatOp) -> COp {
     }
 }
 
-fn test_of(alloc: Global, ir: &Ir, test: &Test) -> Result<CTest, NoMemory> {
+fn test_of(alloc: Global, ir: &Ir, test: &Test) -> Result<CTest, NoMemory>
+    ensures { IfOk result (λ made. made ≡ test_at ir.now test.now) }
+{
     Ok(CTest {
         op: relation_of(test.op),
-        left: boxed(alloc, number_of(alloc, ir, &test.left)?)?,
-        right: boxed(alloc, number_of(alloc, ir, &test.right)?)?,
+        left: Boxed::new(alloc, number_of(alloc, ir, &test.left)?)?,
+        right: Boxed::new(alloc, number_of(alloc, ir, &test.right)?)?,
     })
 }
 
-fn relation_of(op: FlatRel) -> CRel {
+fn relation_of(op: FlatRel) -> CRel
+    ensures { result ≡ relation_at op }
+{
     match op {
         FlatRel::Eq => CRel::Eq,
         FlatRel::Ne => CRel::Ne,

@@ -1,10 +1,10 @@
 -- The text of each tree, from the texts of its parts.
-use Rattle.std.proofs.Common.{◌≡◌, List, ◌++◌, map, ℤ, sym, ap, ◌∙◌}
+use Rattle.std.proofs.Common.{◌≡◌, ◌++◌, ℤ, sym, ap, ◌∙◌}
 use Rattle.std.specs.List.{flat_map}
 use Rattle.std.proofs.lemmas.List.Folds.{flat_map-map}
 use Rattle.og_names.specs.declared.Word.{Word}
 use Rattle.og_csubset.specs.declared.CPlace.{CPlace, fold-roll-CPlace}
-use Rattle.og_csubset.specs.declared.CStep.{CStep, Member, At, fold-roll-CStep, roll-CStep}
+use Rattle.og_csubset.specs.declared.CStep.{Member, At, fold-roll-CStep, roll-CStep}
 use Rattle.og_csubset.specs.declared.CExpr.{CExpr, Number, Read, Minus, Op, Pick, fold-roll-CExpr}
 use Rattle.og_csubset.specs.declared.CExpr.TheOpen as open'
 use Rattle.og_csubset.specs.declared.CExpr.TheVariants.{rolls-Number, rolls-Read, rolls-Minus, rolls-Op, rolls-Pick}

@@ -6,3 +6,6 @@ mod expression;
 mod program;
 
 pub use program::print_c;
+
+#[cfg(test)]
+mod tests;

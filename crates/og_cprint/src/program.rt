@@ -1,6 +1,10 @@
-//! Prints programs of the C subset and their statements (C99 6.8).
-ghost use Rattle.std.specs.Prelude.{◌≡◌, ◌++◌, IfOk, OnOk};
+//! Prints programs of the C subset and their statements (C99 6.8): the heading, each struct behind a blank line, the globals and
+//! the events each as a group behind a blank line, and each function behind a blank line.
+ghost use Rattle.std.specs.Prelude.{◌≡◌, ◌≤◌, ◌++◌, IfOk, OnOk};
 ghost use Rattle.std.specs.List.{flat_map};
+ghost use Rattle.og_csubset.specs.Spelling.{CSpells};
+ghost use Rattle.og_csubset.specs.Nesting.{nesting, IsWithinNesting};
+ghost use Rattle.og_csubset.specs.Plain.{plain_tokens, IsWellMade};
 ghost use Rattle.og_cprint.specs.Heading.{BeginsWithHeading};
 ghost use Rattle.og_cprint.specs.Printed.{goto_bytes, case_bytes, default_bytes, statement_bytes, type_bytes, size_bytes, member_bytes, struct_bytes, global_bytes, event_bytes, function_bytes, gap, globals_bytes, events_bytes, body_bytes, printed_text};
 
@@ -13,10 +17,16 @@ use std::alloc::Global;
 /// The line that brings in `int64_t` (C99 7.18).
 const HEADING: &[u8] = b"#include <stdint.h>\n";
 
-/// The text of a program.
+/// The text of a program, without a bracket beyond need. What is asked of the program is what has to hold for such a text to be
+/// there: C names, sizes from 1 to 65,536, a member in each struct type, and a text that nests at most 256 deep. The one error is
+/// want of memory.
 pub fn print_c(alloc: Global, program: &CProgram) -> Result<Vec<u8>, NoMemory>
+    requires made { IsWellMade program.now }
+    requires within { nesting (plain_tokens program.now) ≤ 256 }
     ensures heading { IfOk result (λ text. BeginsWithHeading text.items) }
     ensures printed { IfOk result (λ text. text.items ≡ printed_text program.now) }
+    ensures spelt { IfOk result (λ text. CSpells program.now text.items) }
+    ensures nests { IfOk result (λ text. IsWithinNesting 256 text.items) }
 {
     let mut out = Vec::from_slice(alloc, HEADING)?;
     put_body(&mut out, program)?;
@@ -34,6 +44,7 @@ fn put_body(out: &mut Vec<u8>, program: &CProgram) -> Result<(), NoMemory>
     Ok(())
 }
 
+/// Appends each struct type.
 fn put_structs(out: &mut Vec<u8>, structs: &[CStruct]) -> Result<(), NoMemory>
     ensures { OnOk result (out.new.items ≡ out.old.items ++ flat_map struct_bytes structs.now) }
 {
@@ -43,6 +54,7 @@ fn put_structs(out: &mut Vec<u8>, structs: &[CStruct]) -> Result<(), NoMemory>
     Ok(())
 }
 
+/// Appends a blank line and a struct type with its `typedef`, a member a line (C99 6.7.2.1).
 #[tactic(auto, unfolding(crate::specs::Printed::struct_bytes))]
 fn put_struct(out: &mut Vec<u8>, shape: &CStruct) -> Result<(), NoMemory>
     ensures { OnOk result (out.new.items ≡ out.old.items ++ struct_bytes shape.now) }
@@ -55,6 +67,7 @@ fn put_struct(out: &mut Vec<u8>, shape: &CStruct) -> Result<(), NoMemory>
     Ok(())
 }
 
+/// Appends the members of a struct type.
 fn put_members(out: &mut Vec<u8>, members: &[CMember]) -> Result<(), NoMemory>
     ensures { OnOk result (out.new.items ≡ out.old.items ++ flat_map member_bytes members.now) }
 {
@@ -64,6 +77,7 @@ fn put_members(out: &mut Vec<u8>, members: &[CMember]) -> Result<(), NoMemory>
     Ok(())
 }
 
+/// Appends a member with its type, its name and, for an array, its size.
 fn put_member(out: &mut Vec<u8>, member: &CMember) -> Result<(), NoMemory>
     ensures { OnOk result (out.new.items ≡ out.old.items ++ member_bytes member.now) }
 {
@@ -92,6 +106,7 @@ fn put_size(out: &mut Vec<u8>, size: Option<u32>) -> Result<(), NoMemory>
     }
 }
 
+/// Appends `int64_t` or the name of a struct type.
 fn put_type(out: &mut Vec<u8>, kind: &CType) -> Result<(), NoMemory>
     ensures { OnOk result (out.new.items ≡ out.old.items ++ type_bytes kind.now) }
 {
@@ -107,6 +122,7 @@ fn put_type(out: &mut Vec<u8>, kind: &CType) -> Result<(), NoMemory>
     }
 }
 
+/// Appends the globals behind a blank line, or nothing where there are none.
 fn put_globals(out: &mut Vec<u8>, globals: &[CGlobal]) -> Result<(), NoMemory>
     ensures { OnOk result (out.new.items ≡ out.old.items ++ globals_bytes globals.now) }
 {
@@ -115,6 +131,7 @@ fn put_globals(out: &mut Vec<u8>, globals: &[CGlobal]) -> Result<(), NoMemory>
     Ok(())
 }
 
+/// Appends the globals alone.
 fn put_each_global(out: &mut Vec<u8>, globals: &[CGlobal]) -> Result<(), NoMemory>
     ensures { OnOk result (out.new.items ≡ out.old.items ++ flat_map global_bytes globals.now) }
 {
@@ -124,6 +141,7 @@ fn put_each_global(out: &mut Vec<u8>, globals: &[CGlobal]) -> Result<(), NoMemor
     Ok(())
 }
 
+/// Appends a global with its type (C99 6.7).
 fn put_global(out: &mut Vec<u8>, global: &CGlobal) -> Result<(), NoMemory>
     ensures { OnOk result (out.new.items ≡ out.old.items ++ global_bytes global.now) }
 {
@@ -134,6 +152,7 @@ fn put_global(out: &mut Vec<u8>, global: &CGlobal) -> Result<(), NoMemory>
     Ok(())
 }
 
+/// Appends the events behind a blank line, or nothing where there are none.
 fn put_events(out: &mut Vec<u8>, events: &[Word]) -> Result<(), NoMemory>
     ensures { OnOk result (out.new.items ≡ out.old.items ++ events_bytes events.now) }
 {
@@ -142,6 +161,7 @@ fn put_events(out: &mut Vec<u8>, events: &[Word]) -> Result<(), NoMemory>
     Ok(())
 }
 
+/// Appends the events alone.
 fn put_each_event(out: &mut Vec<u8>, events: &[Word]) -> Result<(), NoMemory>
     ensures { OnOk result (out.new.items ≡ out.old.items ++ flat_map event_bytes events.now) }
 {
@@ -151,6 +171,7 @@ fn put_each_event(out: &mut Vec<u8>, events: &[Word]) -> Result<(), NoMemory>
     Ok(())
 }
 
+/// Appends an event, which is declared and not defined here.
 fn put_event(out: &mut Vec<u8>, event: &Word) -> Result<(), NoMemory>
     ensures { OnOk result (out.new.items ≡ out.old.items ++ event_bytes event.now) }
 {
@@ -171,6 +192,7 @@ fn put_gap(out: &mut Vec<u8>, nothing: bool) -> Result<(), NoMemory>
     Ok(())
 }
 
+/// Appends each function.
 fn put_functions(out: &mut Vec<u8>, functions: &[CFunction]) -> Result<(), NoMemory>
     ensures { OnOk result (out.new.items ≡ out.old.items ++ flat_map function_bytes functions.now) }
 {
@@ -180,6 +202,7 @@ fn put_functions(out: &mut Vec<u8>, functions: &[CFunction]) -> Result<(), NoMem
     Ok(())
 }
 
+/// Appends a blank line and a function, with its braces on lines of their own.
 #[tactic(auto, unfolding(crate::specs::Printed::function_bytes))]
 fn put_function(out: &mut Vec<u8>, function: &CFunction) -> Result<(), NoMemory>
     ensures { OnOk result (out.new.items ≡ out.old.items ++ function_bytes function.now) }
@@ -192,6 +215,7 @@ fn put_function(out: &mut Vec<u8>, function: &CFunction) -> Result<(), NoMemory>
     Ok(())
 }
 
+/// Appends the body of a function.
 fn put_statements(out: &mut Vec<u8>, statements: &[CStmt]) -> Result<(), NoMemory>
     ensures { OnOk result (out.new.items ≡ out.old.items ++ flat_map statement_bytes statements.now) }
 {
@@ -201,13 +225,14 @@ fn put_statements(out: &mut Vec<u8>, statements: &[CStmt]) -> Result<(), NoMemor
     Ok(())
 }
 
+/// Appends a statement: a label at the margin, any other one four spaces from it.
 #[tactic(auto, unfolding(crate::specs::Printed::statement_bytes))]
 fn put_statement(out: &mut Vec<u8>, statement: &CStmt) -> Result<(), NoMemory>
     ensures { OnOk result (out.new.items ≡ out.old.items ++ statement_bytes statement.now) }
 {
     match statement {
-        CStmt::Label(name) => {
-            put_word(out, name)?;
+        CStmt::Label(target) => {
+            put_word(out, target)?;
             put(out, b":;\n")?;
             Ok(())
         }
@@ -259,6 +284,7 @@ fn put_default(out: &mut Vec<u8>, label: &Word) -> Result<(), NoMemory>
     Ok(())
 }
 
+/// Appends the cases of a switch.
 fn put_cases(out: &mut Vec<u8>, cases: &[CCase]) -> Result<(), NoMemory>
     ensures { OnOk result (out.new.items ≡ out.old.items ++ flat_map case_bytes cases.now) }
 {
@@ -268,6 +294,7 @@ fn put_cases(out: &mut Vec<u8>, cases: &[CCase]) -> Result<(), NoMemory>
     Ok(())
 }
 
+/// Appends a case, which leads to its label (C99 6.8.1).
 fn put_case(out: &mut Vec<u8>, case: &CCase) -> Result<(), NoMemory>
     ensures { OnOk result (out.new.items ≡ out.old.items ++ case_bytes case.now) }
 {

@@ -1,5 +1,10 @@
 //! What the functions of flat code are made of.
-use og_ir::{Flat, FlatFn, FlatRel, Instr, Slot, Test};
+ghost use Rattle.std.specs.Prelude.{◌≡◌, ◌+◌, ◌++◌, IfOk};
+ghost use Rattle.og_ir.specs.declared.Instr.TheVariants as instr;
+ghost use Rattle.og_csubset.specs.Interface.{name_of};
+ghost use Rattle.og_flatten.specs.FlatCode.{word, slot as whole_slot, read as reading, sets, is_stopped, no_label as empty_label, joined_label};
+
+use og_ir::{Flat, FlatRel, Instr, Slot, Test};
 use og_model::Model;
 use og_names::{NameId, NoMemory, Word};
 use sqlite_items::Items;
@@ -17,105 +22,80 @@ pub const CHOSEN: u32 = 6;
 /// The number of the function that carries out transitions.
 pub const TRANSITION: u32 = 0;
 
-/// Code that is being made, with a label for each instruction.
-#[derive(Drop)]
-pub struct Draft {
-    pub code: Items<Instr>,
-    pub labels: Items<Word>,
-}
-
-impl Draft {
-    pub fn new(alloc: Global) -> Draft {
-        Draft {
-            code: Items::new(alloc),
-            labels: Items::new(alloc),
-        }
-    }
-
-    /// Appends an instruction without a label.
-    pub fn put(&mut self, alloc: Global, instruction: Instr) -> Result<(), NoMemory> {
-        self.put_labelled(instruction, no_word(alloc))
-    }
-
-    pub fn put_labelled(&mut self, instruction: Instr, label: Word) -> Result<(), NoMemory> {
-        if self.code.push(instruction).is_err() || self.labels.push(label).is_err() {
-            return Err(NoMemory);
-        }
-        Ok(())
-    }
-
-    /// Appends the code of another draft.
-    pub fn append(&mut self, more: Draft) -> Result<(), NoMemory> {
-        let Draft { code, labels } = more;
-        if self.code.append(code).is_err() || self.labels.append(labels).is_err() {
-            return Err(NoMemory);
-        }
-        Ok(())
-    }
-
-    /// The function of this name with the code so far.
-    pub fn finish(self, name: Word) -> FlatFn {
-        let Draft { code, labels } = self;
-        FlatFn { name, code, labels }
-    }
-}
-
-pub fn slot(alloc: Global, base: u32) -> Slot {
+fn slot(alloc: Global, base: u32) -> Slot
+    ensures { result ≡ whole_slot base }
+{
     Slot {
         base,
         path: Items::new(alloc),
     }
 }
 
-pub fn set(alloc: Global, base: u32, number: i64) -> Instr {
+/// The number in a slot.
+pub fn read(alloc: Global, base: u32) -> Flat
+    ensures { result ≡ reading base }
+{
+    Flat::Read(slot(alloc, base))
+}
+
+/// Sets a slot to a number.
+pub fn set(alloc: Global, base: u32, number: i64) -> Instr
+    ensures { result ≡ sets base number }
+{
     Instr::Set(slot(alloc, base), Flat::Number(number))
 }
 
 /// Goes to the place where the process is stopped.
-pub fn leave_if_stopped(alloc: Global, to: u32) -> Instr {
+pub fn leave_if_stopped(alloc: Global, to: u32) -> Instr
+    ensures { result ≡ instr.Branch is_stopped to }
+{
     let test = Test {
         op: FlatRel::Ne,
-        left: Flat::Read(slot(alloc, STOPPED)),
+        left: read(alloc, STOPPED),
         right: Flat::Number(0),
     };
     Instr::Branch(test, to)
 }
 
-pub fn no_word(alloc: Global) -> Word {
+/// No bytes.
+pub fn no_label(alloc: Global) -> Word
+    ensures { result ≡ empty_label }
+{
     Word {
         bytes: Items::new(alloc),
     }
 }
 
-pub fn word_of(alloc: Global, bytes: &[u8]) -> Result<Word, NoMemory> {
-    match Items::from_slice(alloc, bytes) {
-        Ok(bytes) => Ok(Word { bytes }),
-        Err(_) => Err(NoMemory),
-    }
+pub fn word_of(alloc: Global, bytes: &[u8]) -> Result<Word, NoMemory>
+    ensures { IfOk result (λ made. made ≡ word bytes.now) }
+{
+    Ok(Word {
+        bytes: Items::from_slice(alloc, bytes)?,
+    })
 }
 
 /// The bytes of both, one after the other.
-pub fn joined(alloc: Global, first: &[u8], second: &[u8]) -> Result<Word, NoMemory> {
-    let Ok(mut bytes) = Items::from_slice(alloc, first) else {
-        return Err(NoMemory);
-    };
-    let Ok(more) = Items::from_slice(alloc, second) else {
-        return Err(NoMemory);
-    };
-    match bytes.append(more) {
-        Ok(()) => Ok(Word { bytes }),
-        Err(_) => Err(NoMemory),
-    }
+pub fn joined(alloc: Global, first: &[u8], second: &[u8]) -> Result<Word, NoMemory>
+    ensures { IfOk result (λ made. made ≡ word (first.now ++ second.now)) }
+{
+    let mut bytes = Items::from_slice(alloc, first)?;
+    let more = Items::from_slice(alloc, second)?;
+    bytes.append(more)?;
+    Ok(Word { bytes })
 }
 
 /// Both with `__` between them, which no declared name has.
-pub fn label_of(alloc: Global, first: &[u8], second: &[u8]) -> Result<Word, NoMemory> {
+pub fn label_of(alloc: Global, first: &[u8], second: &[u8]) -> Result<Word, NoMemory>
+    ensures { IfOk result (λ made. made ≡ joined_label first.now second.now) }
+{
     let front = joined(alloc, first, b"__")?;
     joined(alloc, front.bytes.as_slice(), second)
 }
 
 /// The folded name of this number, no bytes where there is none.
-pub fn name_text(model: &Model, name: NameId) -> &[u8] {
+pub fn name_text(model: &Model, name: NameId) -> &[u8]
+    ensures { result.now ≡ name_of model.now name }
+{
     match model.names.text(name) {
         Some(text) => text,
         None => &[],
@@ -123,14 +103,18 @@ pub fn name_text(model: &Model, name: NameId) -> &[u8] {
 }
 
 /// A number of a place or a thing. There are fewer than 2^32 of them, or memory cannot hold them.
-pub fn number_of(count: usize) -> Result<u32, NoMemory> {
+pub fn number_of(count: usize) -> Result<u32, NoMemory>
+    ensures { IfOk result (λ number. number ≡ count) }
+{
     match u32::try_from(count) {
         Ok(number) => Ok(number),
         Err(_) => Err(NoMemory),
     }
 }
 
-pub fn sum_of(first: usize, second: usize) -> Result<usize, NoMemory> {
+pub fn sum_of(first: usize, second: usize) -> Result<usize, NoMemory>
+    ensures { IfOk result (λ sum. sum ≡ first + second) }
+{
     match first.checked_add(second) {
         Some(sum) => Ok(sum),
         None => Err(NoMemory),

@@ -9,3 +9,13 @@ pub mod OneAnswer
 pub mod ShortNames
 pub mod Underlines
 pub mod ShortParts
+pub mod Layers
+pub mod Building
+pub mod States
+pub mod WrittenTrees
+pub mod Elements
+pub mod Kept
+pub mod NameTables
+pub mod TreePlaces
+pub mod Resolving
+pub mod Formed

@@ -1,12 +1,12 @@
 -- A file is accepted or has one first violation, and never both: its tokens are determined, and then its tree.
-use Rattle.std.proofs.Common.{◌≡◌, ◌⊎◌, ℕ, List, [], ◌∷◌, Option, Some, None, sym, ◌∙◌, ap, subst, refl, inl, inr}
+use Rattle.std.proofs.Common.{◌≡◌, ℕ, List, ◌∷◌, Some, None, sym, ◌∙◌, ap, subst, inl, inr}
 use Rattle.og_base.specs.declared.Violation.{Violation}
 use Rattle.og_base.specs.declared.Rule.TheVariants.{F1}
 use Rattle.og_lexer.specs.declared.Spanned.{Spanned}
 use Rattle.og_lexer.specs.declared.Comment.{Comment}
 use Rattle.og_lexer.specs.Texts.{Lexes, FirstLexical}
 use Rattle.og_tool.specs.declared.syntax.SystemText.{SystemText}
-use Rattle.og_tool.specs.Files.{IsTextOf, Accepts, IsAccepted, BreaksGrammar, BreaksRule, FirstViolation}
+use Rattle.og_tool.specs.Files.{IsTextOf, IsAccepted, BreaksGrammar, FirstViolation}
 use Rattle.og_tool.specs.Grammar.{Spells}
 use Rattle.og_tool.specs.Reading.{sentence}
 use Rattle.og_tool.specs.Rules.{first_of_rules}

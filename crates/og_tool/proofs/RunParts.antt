@@ -1,20 +1,19 @@
 -- What the parts of the top call give, put together.
-use Rattle.std.proofs.Common.{◌≡◌, ◌⊎◌, ℕ, ◌<◌, ◌≤◌, List, [], ◌∷◌, Option, sym, ◌∙◌, ap, subst, inl, inr, refl}
+use Rattle.std.proofs.Common.{◌≡◌, ℕ, List, ◌∷◌, Option, sym, ◌∙◌, subst, inl, inr, refl}
 use Rattle.og_base.specs.declared.ModelError.{ModelError}
 use Rattle.og_base.specs.declared.ModelError.TheVariants.{Broken}
 use Rattle.og_base.specs.declared.Rule.TheVariants.{F1}
 use Rattle.og_base.specs.declared.Violation.{Violation}
-use Rattle.og_base.specs.Sink.{grown, WroteFront}
-use Rattle.og_base.specs.Store.{Files, HoldsMore, Rose}
+use Rattle.og_base.specs.Store.{Files}
 use Rattle.og_lexer.specs.declared.Spanned.{Spanned}
 use Rattle.og_lexer.specs.declared.Comment.{Comment}
 use Rattle.og_lexer.specs.Texts.{Lexes}
 use Rattle.og_tool.specs.declared.status.Status.{Status}
 use Rattle.og_tool.specs.declared.status.Status.TheVariants.{Done, Refused, Usage, ReadFault, WriteFault, NoMemory, TooLarge}
 use Rattle.og_tool.specs.declared.syntax.SystemText.{SystemText}
-use Rattle.og_tool.specs.Answering.{IsFirst, LineAnswer, BytesAnswer, WroteFrontFor, AnswersBytes, FileAnswer}
-use Rattle.og_tool.specs.Answers.{limit, HasRead, IsTextFor, IsReportFor, WroteC, WroteReport, WroteSome, FailedToRead, IsTooLarge}
-use Rattle.og_tool.specs.Files.{report_line, FirstViolation, BreaksGrammar}
+use Rattle.og_tool.specs.Answering.{IsFirst, LineAnswer, BytesAnswer, FileAnswer}
+use Rattle.og_tool.specs.Answers.{HasRead, IsReportFor, WroteC, WroteReport, WroteSome}
+use Rattle.og_tool.specs.Files.{FirstViolation, BreaksGrammar}
 use Rattle.og_tool.specs.Grammar.{Spells}
 use Rattle.og_tool.specs.Words.{AsksForC}
 

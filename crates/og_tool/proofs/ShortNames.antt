@@ -87,7 +87,7 @@ pub ruleset shorts = (short_name, short_image, short_piece, short_first, short_o
 
 -- ---- the names of a file whose tokens stand in their places
 
-abbrev named : List Form → List Ident
+abbrev pub named : List Form → List Ident
 named [] = []
 named (Reserved word ∷ forms) = named forms
 named (ReservedAt word place ∷ forms) = named forms
@@ -130,7 +130,7 @@ in_state state =
     (named_pieces input_forms input_names in_input state.inputs))
 
 -- what stands behind the signals
-abbrev rest_forms : SystemText → List Form
+abbrev pub rest_forms : SystemText → List Form
 rest_forms system =
     Reserved keyword.Block ∷ Named system.block ∷ Sign Semicolon ∷ Reserved keyword.Process ∷ Named system.process ∷ Sign Semicolon ∷ (start_forms system.start
     ++ flat_map state_forms system.states ++ closing_forms)
@@ -141,7 +141,7 @@ in_rest system =
     (named_before (flat_map state_forms system.states) closing_forms (flat_map state_names system.states) refl (named_pieces state_forms state_names in_state system.states))
 
 -- the names that the grammar asks for are all names
-named_system : (system : SystemText) → named (system_forms system) ≡ all_names system
+pub named_system : (system : SystemText) → named (system_forms system) ≡ all_names system
 named_system system =
     ap (λ (names : List Ident). system.system ∷ names) (named-append (flat_map signal_forms system.signals) (rest_forms system)
     ∙ (λ i. named_pieces signal_forms declared_by in_signal system.signals i ++ in_rest system i))

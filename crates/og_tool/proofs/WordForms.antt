@@ -1,5 +1,5 @@
 -- When the words have the form of a command.
-use Rattle.std.proofs.Common.{◌≡◌, ◌≢◌, ℕ, ◌+◌, ◌-◌, ◌<◌, ◌≤◌, ◌↔◌, Bool, true, false, IsTrue, List, [], ◌∷◌, ◌++◌, length, take, drop, map, sym, ◌∙◌, ap, refl, arith, subst, string_bytes, get_or, length-append, cond, Global}
+use Rattle.std.proofs.Common.{◌≡◌, ℕ, ◌+◌, ◌-◌, ◌<◌, ◌≤◌, ◌↔◌, Bool, true, false, IsTrue, List, [], ◌∷◌, ◌++◌, length, take, drop, map, sym, ◌∙◌, ap, refl, arith, string_bytes, get_or, length-append, Global}
 use Rattle.std.proofs.lemmas.List.{take-append-drop, drop_at, length-take-le}
 use lib.Pointwise.{pointwise}
 use lib.Dec.{eqb}

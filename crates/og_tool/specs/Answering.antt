@@ -1,5 +1,5 @@
 -- What the parts of the top call answer, by status.
-use Rattle.std.specs.Prelude.{◌≡◌, ℕ, List, Option, None}
+use Rattle.std.specs.Prelude.{◌≡◌, ℕ, List, Option}
 use Rattle.og_base.specs.declared.ModelError.{ModelError}
 use Rattle.og_base.specs.declared.ModelError.TheVariants as error
 use Rattle.og_base.specs.Store.{Files, HoldsMore, Rose}

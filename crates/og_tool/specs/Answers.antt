@@ -1,21 +1,24 @@
 -- What the top call answers and writes. Each answer has its cause: in the words, in the bytes that the store tells, or in a
 -- count of failures that rose.
-use Rattle.std.specs.Prelude.{◌≡◌, ◌⊎◌, ℕ, ◌<◌, ◌≤◌, List, [], ◌∷◌, ◌++◌, length, Option, IfSome}
+use Rattle.std.specs.Prelude.{◌≡◌, ◌⊎◌, ℕ, ◌≤◌, List, length, Option}
 use Rattle.og_base.specs.declared.Violation.{Violation}
 use Rattle.og_base.specs.Store.{Files, Holds, HoldsMore, Rose}
 use Rattle.og_base.specs.Sink.{grown, WroteFront}
-use Rattle.og_cprint.specs.Heading.{BeginsWithHeading}
-use Rattle.og_tool.specs.Files.{IsAccepted, FirstViolation, report_line}
+use Rattle.og_tool.specs.declared.syntax.SystemText.{SystemText}
+use Rattle.og_tool.specs.Compiled.{IsCompiled}
+use Rattle.og_tool.specs.Files.{Accepts, FirstViolation, report_line}
+use Rattle.og_tool.specs.ModelOf.{model_of_tree}
 use Rattle.og_tool.specs.Words.{AsksForC}
 
 -- the most bytes that a model file may have
 abbrev pub limit : ℕ
 limit = 67108864
 
--- the text of the C of an accepted file
+-- the text of the C of an accepted file: the bytes are a text of a tree that keeps the rules, and this is the C of its model
 pub record IsTextFor (bytes text : List ℕ) : Type 0 where
-  pub accepted : IsAccepted bytes
-  pub heading : BeginsWithHeading text
+  pub system : SystemText
+  pub accepts : Accepts bytes system
+  pub compiled : IsCompiled (model_of_tree system) text
 
 -- the line that names the first violation in a file of this name
 pub record IsReportFor (file bytes line : List ℕ) : Type 0 where

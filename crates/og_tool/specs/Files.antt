@@ -1,7 +1,6 @@
 -- What the rules say of a model file as bytes. A file that violates no rule is accepted; any other one has a first violation:
 -- of the tokens (Z.101 section 6.1), of the grammar, of names, of states or of limits, each where what comes before is kept.
-use Rattle.std.specs.Prelude.{◌≡◌, ◌⊎◌, ℕ, List, [], ◌∷◌, ◌++◌, Option, Some, None, codes, decimal}
-use Rattle.og_base.specs.declared.Place.{Place}
+use Rattle.std.specs.Prelude.{◌≡◌, ◌⊎◌, ℕ, List, [], ◌∷◌, ◌++◌, Some, None, codes, decimal}
 use Rattle.og_base.specs.declared.Rule.{Rule}
 use Rattle.og_base.specs.declared.Rule.TheVariants as rule
 use Rattle.og_base.specs.declared.Violation.{Violation}

@@ -8,3 +8,8 @@ pub mod Statuses
 pub mod Reading
 pub mod Names
 pub mod Tables
+pub mod Compiled
+pub mod ModelOf
+pub mod Building
+pub mod Examples
+pub mod Written

@@ -1,6 +1,5 @@
 -- The words of the command line, and which of them have the form of a command.
-use Rattle.std.specs.Prelude.{◌≡◌, ℕ, ◌<◌, List, [], ◌∷◌, ◌++◌, length, map, string_bytes, codes}
-use Rattle.std.specs.declared.string.String.{String}
+use Rattle.std.specs.Prelude.{◌≡◌, ℕ, ◌<◌, List, [], ◌∷◌, ◌++◌, length, codes}
 
 -- a name that ends in `.pr` with something before it
 abbrev pub IsModelFile : List ℕ → Type 0

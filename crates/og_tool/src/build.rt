@@ -1,8 +1,15 @@
 //! The model of a file that keeps the rules.
-ghost use Rattle.og_tool.specs.Names.{AreShort, HasShortNames, input_names, state_names};
+ghost use Rattle.std.specs.Prelude.{◌≡◌, ◌+◌, [], ◌∷◌, ◌++◌, IfOk, OnOk, length, map};
+ghost use Rattle.std.specs.List.{flat_map};
+ghost use Rattle.og_tool.specs.Building.{bare_state, handlers_from, given, all_given};
+ghost use Rattle.og_tool.specs.ModelOf.{Transition, name_table, id_in, signal_of, ending_of, step_of, start_body, input_body, bodies_of, handler_at, state_of, firsts_from, first_headers, scope_of, model_of_tree};
+ghost use Rattle.og_names.specs.Folding.{with_name};
+ghost use Rattle.og_tool.specs.Names.{IsShort, AreShort, HasShortNames, declared_by, input_names, state_names};
+ghost use Rattle.og_tool.specs.Rules.{key, number_in, with_names};
+ghost use Rattle.og_tool.specs.Tables.{AreTables};
 
-use crate::rules::{Tables, add_declared, add_name, add_names, number_in};
-use crate::syntax::{Ident, InputText, NextText, StateText, SystemText};
+use crate::rules::{Tables, add_declared, add_name, add_names, is_in, number_in};
+use crate::syntax::{Ident, InputText, NextText, SignalText, StartText, StateText, SystemText};
 use og_model::{
     Action, Block, Body, EndKind, Ending, Handler, Model, Scope, Signal, Start, StateDef,
     StateKind, Step, Trigger,
@@ -12,16 +19,19 @@ use og_types::TypeTable;
 use sqlite_items::Items;
 use std::alloc::Global;
 
-/// The model of a file, by the numbers that the tables give to signals and states.
+/// The model of a file, by the numbers that its tables give to signals and states.
 pub fn model_of(alloc: Global, system: &SystemText, tables: &Tables) -> Result<Model, NoMemory>
-    requires { HasShortNames system.now }
+    requires short { HasShortNames system.now }
+    requires tables { AreTables system.now tables.now }
+    ensures { IfOk result (λ model. model ≡ model_of_tree system.now) }
 {
-    let mut names = Names::new(alloc);
-    add_all_names(&mut names, system)?;
+    let names = names_of(alloc, system)?;
+    let signals = signals_of(alloc, system.signals.as_slice(), &names)?;
+    let root = scope_of(alloc, system, tables, &names)?;
     Ok(Model {
         name: id_of(&names, &system.process),
-        signals: signals_of(alloc, system, &names)?,
-        root: scope_of(alloc, system, tables, &names)?,
+        signals,
+        root,
         names,
         types: TypeTable::new(alloc),
         timers: Items::new(alloc),
@@ -32,57 +42,70 @@ pub fn model_of(alloc: Global, system: &SystemText, tables: &Tables) -> Result<M
 
 /// Numbers the names in the order of the tokens.
 #[tactic(auto, using(crate::proofs::ShortNames::shorts, crate::proofs::ShortParts::parts))]
-fn add_all_names(names: &mut Names, system: &SystemText) -> Result<(), NoMemory>
+fn names_of(alloc: Global, system: &SystemText) -> Result<Names, NoMemory>
     requires { HasShortNames system.now }
+    ensures { IfOk result (λ names. names ≡ name_table system.now) }
 {
-    add_name(names, &system.system)?;
-    for signal in system.signals.as_slice() {
+    let mut names = Names::new(alloc);
+    add_name(&mut names, &system.system)?;
+    add_all_declared(&mut names, system.signals.as_slice())?;
+    add_name(&mut names, &system.block)?;
+    add_name(&mut names, &system.process)?;
+    add_name(&mut names, &system.start.next.state)?;
+    add_all_in_states(&mut names, system.states.as_slice())?;
+    Ok(names)
+}
+
+#[tactic(auto, using(crate::proofs::ShortNames::shorts, crate::proofs::ShortParts::parts))]
+fn add_all_declared(names: &mut Names, signals: &[SignalText]) -> Result<(), NoMemory>
+    requires { AreShort (flat_map declared_by signals.now) }
+    ensures { OnOk result (names.new ≡ with_names names.old (map key (flat_map declared_by signals.now))) }
+{
+    for signal in signals {
         add_declared(names, signal)?;
     }
-    add_name(names, &system.block)?;
-    add_name(names, &system.process)?;
-    add_name(names, &system.start.next.state)?;
-    for state in system.states.as_slice() {
-        add_state_names(names, state)?;
+    Ok(())
+}
+
+#[tactic(auto, using(crate::proofs::ShortNames::shorts, crate::proofs::ShortParts::parts))]
+fn add_all_in_states(names: &mut Names, states: &[StateText]) -> Result<(), NoMemory>
+    requires { AreShort (flat_map state_names states.now) }
+    ensures { OnOk result (names.new ≡ with_names names.old (map key (flat_map state_names states.now))) }
+{
+    for state in states {
+        add_name(names, &state.name)?;
+        add_all_in_inputs(names, state.inputs.as_slice())?;
     }
     Ok(())
 }
 
 #[tactic(auto, using(crate::proofs::ShortNames::shorts, crate::proofs::ShortParts::parts))]
-fn add_state_names(names: &mut Names, state: &StateText) -> Result<(), NoMemory>
-    requires { AreShort (state_names state.now) }
+fn add_all_in_inputs(names: &mut Names, inputs: &[InputText]) -> Result<(), NoMemory>
+    requires { AreShort (flat_map input_names inputs.now) }
+    ensures { OnOk result (names.new ≡ with_names names.old (map key (flat_map input_names inputs.now))) }
 {
-    add_name(names, &state.name)?;
-    for input in state.inputs.as_slice() {
-        add_input_names(names, input)?;
+    for input in inputs {
+        add_name(names, &input.signal)?;
+        add_names(names, input.outputs.as_slice())?;
+        add_name(names, &input.next.state)?;
     }
     Ok(())
 }
 
-#[tactic(auto, using(crate::proofs::ShortNames::shorts, crate::proofs::ShortParts::parts))]
-fn add_input_names(names: &mut Names, input: &InputText) -> Result<(), NoMemory>
-    requires { AreShort (input_names input.now) }
+fn id_of(names: &Names, name: &Ident) -> NameId
+    ensures { result ≡ id_in names.now name.now }
 {
-    add_name(names, &input.signal)?;
-    add_names(names, input.outputs.as_slice())?;
-    add_name(names, &input.next.state)?;
-    Ok(())
-}
-
-fn id_of(names: &Names, name: &Ident) -> NameId {
     NameId(number_in(names, name))
 }
 
 /// Until routes are read each signal goes both ways.
-fn signals_of(
-    alloc: Global,
-    system: &SystemText,
-    names: &Names,
-) -> Result<Items<Signal>, NoMemory> {
+fn signals_of(alloc: Global, texts: &[SignalText], names: &Names) -> Result<Items<Signal>, NoMemory>
+    ensures { IfOk result (λ signals. signals ≡ map (signal_of names.now) (flat_map declared_by texts.now)) }
+{
     let mut signals = Items::new(alloc);
-    for signal in system.signals.as_slice() {
-        push_signal(alloc, &mut signals, names, &signal.first)?;
-        push_signals(alloc, &mut signals, names, signal.others.as_slice())?;
+    for text in texts {
+        push_signal(alloc, &mut signals, names, &text.first)?;
+        push_signals(alloc, &mut signals, names, text.others.as_slice())?;
     }
     Ok(signals)
 }
@@ -92,7 +115,9 @@ fn push_signals(
     signals: &mut Items<Signal>,
     names: &Names,
     more: &[Ident],
-) -> Result<(), NoMemory> {
+) -> Result<(), NoMemory>
+    ensures { OnOk result (signals.new ≡ signals.old ++ map (signal_of names.now) more.now) }
+{
     for name in more {
         push_signal(alloc, signals, names, name)?;
     }
@@ -104,7 +129,9 @@ fn push_signal(
     signals: &mut Items<Signal>,
     names: &Names,
     name: &Ident,
-) -> Result<(), NoMemory> {
+) -> Result<(), NoMemory>
+    ensures { OnOk result (signals.new ≡ signals.old ++ signal_of names.now name.now ∷ []) }
+{
     let signal = Signal {
         name: id_of(names, name),
         sorts: Items::new(alloc),
@@ -121,38 +148,80 @@ fn scope_of(
     system: &SystemText,
     tables: &Tables,
     names: &Names,
-) -> Result<Scope, NoMemory> {
+) -> Result<Scope, NoMemory>
+    requires short { HasShortNames system.now }
+    requires tables { AreTables system.now tables.now }
+    requires names { names.now ≡ name_table system.now }
+    ensures { IfOk result (λ scope. scope ≡ scope_of tables.now system.now) }
+{
     let mut starts = Items::new(alloc);
     starts.push(Start {
         entry: None,
         body: 0,
     })?;
-    let mut bodies = Items::new(alloc);
-    bodies.push(start_body(alloc, system, tables)?)?;
-    let mut states = Vec::new(alloc);
-    for state in system.states.as_slice() {
-        add_header(alloc, &mut states, &mut bodies, state, tables, names)?;
-    }
+    let bodies = bodies_of(alloc, system, tables)?;
+    let states = states_of(alloc, system, tables, names)?;
     Ok(Scope {
-        states: Items::from_vec(states),
+        states,
         starts,
         bodies,
     })
 }
 
-fn start_body(alloc: Global, system: &SystemText, tables: &Tables) -> Result<Body, NoMemory> {
-    let block = Block {
-        steps: Items::new(alloc),
-        end: Some(ending_of(&system.start.next, tables)),
-    };
-    Ok(Body {
-        place: system.start.place,
-        label: None,
-        block,
-    })
+fn bodies_of(alloc: Global, system: &SystemText, tables: &Tables) -> Result<Items<Body>, NoMemory>
+    ensures { IfOk result (λ bodies. bodies ≡ bodies_of tables.now system.now) }
+{
+    let mut bodies = Items::new(alloc);
+    bodies.push(start_body(alloc, &system.start, tables))?;
+    add_bodies(alloc, &mut bodies, system.states.as_slice(), tables)?;
+    Ok(bodies)
 }
 
-fn ending_of(next: &NextText, tables: &Tables) -> Ending {
+fn add_bodies(
+    alloc: Global,
+    bodies: &mut Items<Body>,
+    states: &[StateText],
+    tables: &Tables,
+) -> Result<(), NoMemory>
+    ensures { OnOk result (bodies.new ≡ bodies.old ++ flat_map (λ state. map (input_body tables.now) state.inputs) states.now) }
+{
+    for state in states {
+        add_bodies_of(alloc, bodies, state.inputs.as_slice(), tables)?;
+    }
+    Ok(())
+}
+
+fn add_bodies_of(
+    alloc: Global,
+    bodies: &mut Items<Body>,
+    inputs: &[InputText],
+    tables: &Tables,
+) -> Result<(), NoMemory>
+    ensures { OnOk result (bodies.new ≡ bodies.old ++ map (input_body tables.now) inputs.now) }
+{
+    for input in inputs {
+        bodies.push(input_body(alloc, input, tables)?)?;
+    }
+    Ok(())
+}
+
+fn start_body(alloc: Global, start: &StartText, tables: &Tables) -> Body
+    ensures { result ≡ start_body tables.now start.now }
+{
+    let block = Block {
+        steps: Items::new(alloc),
+        end: Some(ending_of(&start.next, tables)),
+    };
+    Body {
+        place: start.place,
+        label: None,
+        block,
+    }
+}
+
+fn ending_of(next: &NextText, tables: &Tables) -> Ending
+    ensures { result ≡ ending_of tables.now next.now }
+{
     Ending {
         label: None,
         place: next.place,
@@ -163,65 +232,10 @@ fn ending_of(next: &NextText, tables: &Tables) -> Ending {
     }
 }
 
-/// Takes in one STATE: a new state where it is the first of its name, then its handlers and their transitions.
-fn add_header(
-    alloc: Global,
-    states: &mut Vec<StateDef>,
-    bodies: &mut Items<Body>,
-    state: &StateText,
-    tables: &Tables,
-    names: &Names,
-) -> Result<(), NoMemory> {
-    let number = number_in(&tables.states, &state.name) as usize;
-    if number >= states.len() {
-        states.push(state_of(alloc, state, names))?;
-    }
-    for input in state.inputs.as_slice() {
-        let body = number_of(bodies.len())?;
-        bodies.push(input_body(alloc, input, tables)?)?;
-        add_handler(states, number, handler_of(alloc, input, tables, body))?;
-    }
-    Ok(())
-}
-
-fn state_of(alloc: Global, state: &StateText, names: &Names) -> StateDef {
-    StateDef {
-        name: id_of(names, &state.name),
-        place: state.name.place,
-        kind: StateKind::Basic,
-        handlers: Items::new(alloc),
-    }
-}
-
-fn handler_of(alloc: Global, input: &InputText, tables: &Tables, body: u32) -> Handler {
-    Handler {
-        place: input.signal.place,
-        trigger: Trigger::Input {
-            signal: number_in(&tables.signals, &input.signal),
-            into: Items::new(alloc),
-        },
-        body,
-    }
-}
-
-/// Gives the handler to the state of this number.
-fn add_handler(
-    states: &mut Vec<StateDef>,
-    number: usize,
-    handler: Handler,
-) -> Result<(), NoMemory> {
-    if number < states.len() {
-        let state = &mut states[number];
-        state.handlers.push(handler)?;
-    }
-    Ok(())
-}
-
-fn input_body(alloc: Global, input: &InputText, tables: &Tables) -> Result<Body, NoMemory> {
-    let mut steps = Items::new(alloc);
-    for output in input.outputs.as_slice() {
-        steps.push(output_step(alloc, output, tables))?;
-    }
+fn input_body(alloc: Global, input: &InputText, tables: &Tables) -> Result<Body, NoMemory>
+    ensures { IfOk result (λ body. body ≡ input_body tables.now input.now) }
+{
+    let steps = steps_of(alloc, input.outputs.as_slice(), tables)?;
     let block = Block {
         steps,
         end: Some(ending_of(&input.next, tables)),
@@ -233,7 +247,19 @@ fn input_body(alloc: Global, input: &InputText, tables: &Tables) -> Result<Body,
     })
 }
 
-fn output_step(alloc: Global, output: &Ident, tables: &Tables) -> Step {
+fn steps_of(alloc: Global, outputs: &[Ident], tables: &Tables) -> Result<Items<Step>, NoMemory>
+    ensures { IfOk result (λ steps. steps ≡ map (step_of tables.now) outputs.now) }
+{
+    let mut steps = Items::new(alloc);
+    for output in outputs {
+        steps.push(output_step(alloc, output, tables))?;
+    }
+    Ok(steps)
+}
+
+fn output_step(alloc: Global, output: &Ident, tables: &Tables) -> Step
+    ensures { result ≡ step_of tables.now output.now }
+{
     Step {
         label: None,
         place: output.place,
@@ -244,10 +270,132 @@ fn output_step(alloc: Global, output: &Ident, tables: &Tables) -> Step {
     }
 }
 
-/// The number of the next transition. More than 32 bits can count do not fit into memory.
-fn number_of(count: usize) -> Result<u32, NoMemory> {
-    match u32::try_from(count) {
-        Ok(number) => Ok(number),
-        Err(_) => Err(NoMemory),
+/// The states with the handlers of all their headers.
+#[tactic(auto, using(crate::proofs::ShortNames::shorts))]
+fn states_of(
+    alloc: Global,
+    system: &SystemText,
+    tables: &Tables,
+    names: &Names,
+) -> Result<Items<StateDef>, NoMemory>
+    requires { HasShortNames system.now }
+    ensures { IfOk result (λ states. states ≡ all_given tables.now 1 system.now.states (map (bare_state names.now) (first_headers system.now))) }
+{
+    let mut states = bare_states(alloc, system.states.as_slice(), names)?;
+    add_handlers(alloc, &mut states, system.states.as_slice(), tables)?;
+    Ok(Items::from_vec(states))
+}
+
+/// A state for each name, in the order of the first headers, without handlers.
+#[tactic(auto, using(crate::proofs::ShortNames::shorts))]
+fn bare_states(alloc: Global, texts: &[StateText], names: &Names) -> Result<Vec<StateDef>, NoMemory>
+    requires { AreShort (map (λ state. state.name) texts.now) }
+    ensures { IfOk result (λ states. states.items ≡ map (bare_state names.now) (firsts_from [] (map (λ state. state.name) texts.now))) }
+{
+    let mut seen = Names::new(alloc);
+    let mut states = Vec::new(alloc);
+    for text in texts {
+        add_state(alloc, &mut states, &mut seen, &text.name, names)?;
+    }
+    Ok(states)
+}
+
+/// Adds a state where its name is new.
+fn add_state(
+    alloc: Global,
+    states: &mut Vec<StateDef>,
+    seen: &mut Names,
+    name: &Ident,
+    names: &Names,
+) -> Result<(), NoMemory>
+    requires { IsShort name.now }
+    ensures seen { OnOk result (seen.new ≡ with_name seen.old (key name.now)) }
+    ensures states { OnOk result (states.new.items ≡ states.old.items ++ map (bare_state names.now) (firsts_from seen.old (name.now ∷ []))) }
+{
+    if is_in(seen, name) {
+        return Ok(());
+    }
+    add_name(seen, name)?;
+    states.push(bare_state(alloc, name, names))?;
+    Ok(())
+}
+
+fn bare_state(alloc: Global, name: &Ident, names: &Names) -> StateDef
+    ensures { result ≡ bare_state names.now name.now }
+{
+    StateDef {
+        name: id_of(names, name),
+        place: name.place,
+        kind: StateKind::Basic,
+        handlers: Items::new(alloc),
+    }
+}
+
+/// Gives each state its handlers. The bodies of the inputs are numbered from 1.
+fn add_handlers(
+    alloc: Global,
+    states: &mut Vec<StateDef>,
+    texts: &[StateText],
+    tables: &Tables,
+) -> Result<(), NoMemory>
+    ensures { OnOk result (states.new.items ≡ all_given tables.now 1 texts.now states.old.items) }
+{
+    let mut body = 1;
+    for text in texts {
+        body = add_handlers_of(alloc, states, text, tables, body)?;
+    }
+    Ok(())
+}
+
+/// Gives the state of one STATE its handlers, and answers the number behind those of their bodies.
+fn add_handlers_of(
+    alloc: Global,
+    states: &mut Vec<StateDef>,
+    text: &StateText,
+    tables: &Tables,
+    first: u32,
+) -> Result<u32, NoMemory>
+    ensures given { OnOk result (states.new.items ≡ given (number_in tables.now.states text.now.name) (handlers_from tables.now text.now.name first text.now.inputs) states.old.items) }
+    ensures number { IfOk result (λ number. number ≡ first + length text.now.inputs) }
+{
+    let state = number_in(&tables.states, &text.name) as usize;
+    let mut body = first;
+    for input in text.inputs.as_slice() {
+        add_handler(states, state, handler_of(alloc, input, tables, body))?;
+        body = number_behind(body)?;
+    }
+    Ok(body)
+}
+
+fn handler_of(alloc: Global, input: &InputText, tables: &Tables, body: u32) -> Handler
+    ensures { (state : Ident) → result ≡ handler_at tables.now (body, record { state = state; input = input.now }) }
+{
+    Handler {
+        place: input.signal.place,
+        trigger: Trigger::Input {
+            signal: number_in(&tables.signals, &input.signal),
+            into: Items::new(alloc),
+        },
+        body,
+    }
+}
+
+/// Gives the handler to the state of this number.
+fn add_handler(states: &mut Vec<StateDef>, state: usize, handler: Handler) -> Result<(), NoMemory>
+    ensures { OnOk result (states.new.items ≡ given state (handler ∷ []) states.old.items) }
+{
+    if state < states.len() {
+        states[state].handlers.push(handler)?;
+    }
+    Ok(())
+}
+
+/// The next number. More transitions than 32 bits can count do not fit into memory.
+fn number_behind(number: u32) -> Result<u32, NoMemory>
+    ensures { IfOk result (λ next. next ≡ number + 1) }
+{
+    match number.checked_add(1) {
+        Some(next) => Ok(next),
+        None => Err(NoMemory),
     }
 }

@@ -1,6 +1,8 @@
 //! From a model to the text of its C.
 ghost use Rattle.std.specs.Prelude.{IfOk};
-ghost use Rattle.og_cprint.specs.Heading.{BeginsWithHeading};
+ghost use Rattle.og_model.specs.Forms.{UsesBasicStatesOnly};
+ghost use Rattle.og_model.specs.WellFormed.{IsWellFormed};
+ghost use Rattle.og_tool.specs.Compiled.{IsCompiled};
 
 use og_cemit::emit;
 use og_cprint::print_c;
@@ -9,9 +11,11 @@ use og_model::Model;
 use og_names::NoMemory;
 use std::alloc::Global;
 
-/// The text of the C of a model.
+/// The text of the C of a model, which one program spells that does what the model does.
 pub fn compile(alloc: Global, model: &Model) -> Result<Vec<u8>, NoMemory>
-    ensures { IfOk result (λ text. BeginsWithHeading text.items) }
+    requires formed { IsWellFormed model.now }
+    requires basic { UsesBasicStatesOnly model.now }
+    ensures { IfOk result (λ text. IsCompiled model.now text.items) }
 {
     let ir = flatten(alloc, model)?;
     let program = emit(alloc, &ir, model)?;

@@ -4,10 +4,16 @@ ghost use Rattle.og_base.specs.declared.Violation.{Violation};
 ghost use Rattle.og_base.specs.Order.{comes_before, first_of};
 ghost use Rattle.og_lexer.specs.declared.Spanned.{Spanned};
 ghost use Rattle.og_lexer.specs.Texts.{AreInPlace};
+ghost use Rattle.og_model.specs.Forms.{UsesBasicStatesOnly};
+ghost use Rattle.og_model.specs.WellFormed.{IsWellFormed};
 ghost use Rattle.og_tool.specs.declared.syntax.SystemText.{SystemText};
+ghost use Rattle.og_tool.specs.Examples.{two_states, two_states_model, two_headers, two_headers_model};
 ghost use Rattle.og_tool.specs.Files.{IsAccepted, FirstViolation};
 ghost use Rattle.og_tool.specs.Grammar.{Spells};
+ghost use Rattle.og_tool.specs.ModelOf.{model_of_tree};
 ghost use Rattle.og_tool.specs.Names.{HasShortNames};
+ghost use Rattle.og_tool.specs.Rules.{first_of_rules};
+ghost use Rattle.og_tool.specs.Written.{IsWrittenTree};
 
 use og_lexer::one_reading;
 
@@ -30,4 +36,22 @@ pub fn first_is_least()
 pub fn names_are_short()
     ensures { (system : SystemText) (tokens : List Spanned) (file : ℕ) (bytes : List ℕ) (at : ℕ) →
         Spells system tokens → AreInPlace file bytes at tokens → HasShortNames system }
+{}
+
+/// The names and places of the first file, whose tokens stand in their places, are such as stand in a text.
+pub fn trees_are_written()
+    ensures { (system : SystemText) (tokens : List Spanned) (bytes : List ℕ) (at : ℕ) →
+        Spells system tokens → AreInPlace 0 bytes at tokens → IsWrittenTree system }
+{}
+
+/// The model of a tree that comes from a text and violates no rule is well formed, and its states are all basic.
+pub fn models_are_well_formed()
+    ensures formed { (system : SystemText) → IsWrittenTree system → first_of_rules system ≡ None → IsWellFormed (model_of_tree system) }
+    ensures basic { (system : SystemText) → UsesBasicStatesOnly (model_of_tree system) }
+{}
+
+/// The models of two trees, worked out by hand.
+pub fn models_of_trees()
+    ensures states { model_of_tree two_states ≡ two_states_model }
+    ensures headers { model_of_tree two_headers ≡ two_headers_model }
 {}

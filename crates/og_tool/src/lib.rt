@@ -14,6 +14,9 @@ mod syntax;
 mod tests;
 mod words;
 
-pub use laws::{first_is_least, names_are_short, one_answer};
+pub use laws::{
+    first_is_least, models_are_well_formed, models_of_trees, names_are_short, one_answer,
+    trees_are_written,
+};
 pub use run::run_tool;
 pub use status::Status;

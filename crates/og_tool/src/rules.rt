@@ -178,7 +178,7 @@ fn add_bytes(table: &mut Names, name: &[u8]) -> Result<NameId, NoMemory>
     table.add(name)
 }
 
-fn is_in(table: &Names, name: &Ident) -> bool
+pub fn is_in(table: &Names, name: &Ident) -> bool
     ensures { result ≡ is_in table.now (key name.now) }
 {
     table.find(name.word.bytes.as_slice()).is_some()

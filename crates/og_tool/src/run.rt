@@ -2,14 +2,16 @@
 ghost use Rattle.std.specs.Prelude.{◌≡◌, ◌≤◌, ◌<◌, ◌↔◌, ℕ, List, ◌∷◌, None, length, map, string_bytes, IfOk, IfErr};
 ghost use Rattle.og_base.specs.declared.Rule.TheVariants as rule;
 ghost use Rattle.og_base.specs.Store.{Rose};
-ghost use Rattle.og_cprint.specs.Heading.{BeginsWithHeading};
 ghost use Rattle.og_lexer.specs.declared.Spanned.{Spanned};
 ghost use Rattle.og_tool.specs.Answering.{BytesAnswer, FileAnswer, LineAnswer, IsFirst, IsFirstOfRules};
 ghost use Rattle.og_tool.specs.Answers.{limit, IsTextFor, WroteC, WroteReport, WroteSome, FailedToRead, IsTooLarge};
+ghost use Rattle.og_tool.specs.Compiled.{IsCompiled};
 ghost use Rattle.og_tool.specs.Files.{report_line as line_of};
+ghost use Rattle.og_tool.specs.ModelOf.{model_of_tree};
 ghost use Rattle.og_tool.specs.Names.{HasShortNames};
 ghost use Rattle.og_tool.specs.Rules.{first_of_rules};
 ghost use Rattle.og_tool.specs.Words.{IsNoCommand};
+ghost use Rattle.og_tool.specs.Written.{IsWrittenTree};
 
 use crate::build::model_of;
 use crate::compile::compile;
@@ -131,8 +133,9 @@ fn text_of(alloc: Global, bytes: &[u8]) -> Result<Vec<u8>, ModelError>
 
 /// The C text of a file that keeps the rules, or its first violation.
 fn text_of_system(alloc: Global, system: &SystemText) -> Result<Vec<u8>, ModelError>
-    requires { HasShortNames system.now }
-    ensures text { IfOk result (λ text. (first_of_rules system.now ≡ None) × BeginsWithHeading text.items) }
+    requires short { HasShortNames system.now }
+    requires written { IsWrittenTree system.now }
+    ensures text { IfOk result (λ text. (first_of_rules system.now ≡ None) × IsCompiled (model_of_tree system.now) text.items) }
     ensures broken { IfErr result (IsFirstOfRules system.now) }
 {
     let tables = tables_of(alloc, system)?;

@@ -57,6 +57,75 @@ fn an_accepted_model_gives_c_that_begins_with_the_include_line(
     Ok(())
 }
 
+/// The lines of the printed text of TWO_STATES that the start goes through, counted from 1 and found by hand: it shows nothing, and
+/// rests in `idle`, which is state 0.
+const AT_THE_START: [(usize, &[u8]); 11] = [
+    (37, b"    r = -INT64_C(1);"),
+    (38, b"    chosen = INT64_C(0);"),
+    (39, b"    transition();"),
+    (15, b"    switch (chosen) {"),
+    (16, b"    case INT64_C(0): goto start__1;"),
+    (20, b"start__1:;"),
+    (21, b"    goto enter__idle__4;"),
+    (25, b"enter__idle__4:;"),
+    (26, b"    r = INT64_C(0);"),
+    (27, b"    return;"),
+    (40, b"    return;"),
+];
+
+/// Those of a first `go`: it shows `done`, and rests in `busy`, which is state 1.
+const AT_GO: [(usize, &[u8]); 15] = [
+    (45, b"    if (stopped != INT64_C(0)) goto end__5;"),
+    (46, b"    switch (r) {"),
+    (47, b"    case INT64_C(0): goto idle__go__2;"),
+    (50, b"idle__go__2:;"),
+    (51, b"    chosen = INT64_C(1);"),
+    (52, b"    transition();"),
+    (15, b"    switch (chosen) {"),
+    (17, b"    case INT64_C(1): goto idle__go__2;"),
+    (22, b"idle__go__2:;"),
+    (23, b"    o_done();"),
+    (24, b"    goto enter__busy__6;"),
+    (28, b"enter__busy__6:;"),
+    (29, b"    r = INT64_C(1);"),
+    (30, b"    return;"),
+    (53, b"    return;"),
+];
+
+/// Those of a second `go`: `busy` does not take it, so it shows nothing and rests there.
+const AT_GO_AGAIN: [(usize, &[u8]); 5] = [
+    (45, b"    if (stopped != INT64_C(0)) goto end__5;"),
+    (46, b"    switch (r) {"),
+    (48, b"    default: goto end__5;"),
+    (54, b"end__5:;"),
+    (55, b"    return;"),
+];
+
+#[test]
+fn the_statements_of_the_printed_text_show_the_expected_trace(rt: HostRuntime) -> Result<(), Fail> {
+    let (status, text) = compiled(rt.alloc(), TWO_STATES, &[], &[])?;
+    assert_eq!(rt; status, Status::Done);
+    let mut shown = Vec::new(rt.alloc());
+    for (number, statement) in AT_THE_START.into_iter().chain(AT_GO).chain(AT_GO_AGAIN) {
+        assert_eq!(rt; line_of(text.as_slice(), number), statement);
+        if statement.starts_with(b"    o_") {
+            shown.push(statement)?;
+        }
+    }
+    assert_eq!(rt; shown.as_slice(), [b"    o_done();".as_slice()].as_slice());
+    Ok(())
+}
+
+/// The line of this number, without its end.
+fn line_of(text: &[u8], number: usize) -> &[u8] {
+    for (before, line) in text.split(|byte| *byte == 10).enumerate() {
+        if before + 1 == number {
+            return line;
+        }
+    }
+    &[]
+}
+
 /// The words of a line, with a blank between two of them.
 fn words_of(alloc: Global, line: &str) -> Result<Vec<String>, AllocError> {
     let mut words = Vec::new(alloc);

@@ -1,4 +1,4 @@
-use Rattle.std.proofs.Common.{◌≡◌, ℕ, List, Option, subst, ◌∙◌, sym, inl, refl}
+use Rattle.std.proofs.Common.{ℕ, List, subst, inl, refl}
 use Rattle.og_base.specs.declared.ModelError.{ModelError}
 use Rattle.og_base.specs.Sink.{WroteFront}
 use Rattle.og_tool.specs.Answering.{IsFirst}

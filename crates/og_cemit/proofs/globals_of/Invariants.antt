@@ -1,0 +1,6 @@
+use Rattle.std.proofs.Common.{◌≡◌, take, map}
+use Rattle.og_cemit.specs.Emitted.{global_of}
+use Rattle.og_cemit.proofs.globals_of.Given as goal
+
+abbrev pub invariant-loop-slot : goal.invariant-loop-slot
+invariant-loop-slot l = l.globals ≡ map global_of (take l.slot-index l.ir.slots)
