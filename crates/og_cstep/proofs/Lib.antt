@@ -1,0 +1,14 @@
+pub mod Loops
+pub mod Known
+pub mod Places
+pub mod Looked
+pub mod Numbers
+pub mod Labelled
+pub mod Widths
+pub mod Grown
+pub mod Pairs
+pub mod Shaped
+pub mod Declared
+pub mod Celled
+pub mod Begun
+pub mod Valued

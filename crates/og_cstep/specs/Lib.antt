@@ -1,0 +1,12 @@
+pub mod Names
+pub mod Held
+pub mod Selected
+pub mod Widths
+pub mod Fields
+pub mod Shaping
+pub mod Trees
+pub mod Machines
+pub mod Numbers
+pub mod Halts
+pub mod Spots
+pub mod Values
