@@ -1,5 +1,5 @@
 -- Rest is shown alike by paths and by the numbers of leaves.
-use Rattle.std.proofs.Common.{◌≡◌, Bool, List, ◌++◌, codes, map, sym, ap, ◌∙◌}
+use Rattle.std.proofs.Common.{◌≡◌, Bool, List, ◌++◌, codes, sym, ap, ◌∙◌}
 use Rattle.std.proofs.lemmas.List.Folds.{flat_map-map}
 use Rattle.og_types.specs.declared.Value.{Value}
 use Rattle.og_names.specs.declared.Word.{Word}

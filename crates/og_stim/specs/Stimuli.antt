@@ -109,7 +109,7 @@ next_in M n (line ∷ lines) = next_by (judged M (n + 1) line) (n + 1) lines (ne
 
 -- what a call answers, and where it leaves the cursor
 abbrev pub IsNext : Model → List ℕ → Cursor → Cursor → Option Stimulus → Type 0
-IsNext M text old new None = next_in M old.line (lines_of (drop old.offset text)) ≡ AtEnd
+IsNext M text old new None = (new.offset ≡ length text) × (next_in M old.line (lines_of (drop old.offset text)) ≡ AtEnd)
 IsNext M text old new (Some x) =
     (x.values ≡ []) × (next_in M old.line (lines_of (drop old.offset text)) ≡ Stands x.id new.line (lines_of (drop new.offset text)))
 

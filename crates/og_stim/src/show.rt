@@ -51,8 +51,9 @@ pub enum TraceEnd {
     },
 }
 
-/// Appends the line of a stimulus, or of the start.
+/// Appends the line of a stimulus, or of the start. Until data is read a stimulus has no values.
 pub fn show_stimulus(model: &Model, stimulus: &Stimulus, out: &mut Vec<u8>) -> Result<(), NoMemory>
+    requires { stimulus.now.values ≡ [] }
     ensures { OnOk result (out.new.items ≡ out.old.items ++ stimulus_line model.now stimulus.now.id) }
 {
     put(out, b"> ")?;

@@ -45,7 +45,7 @@ const LINES: u32 = 1000000;
 
 const BYTES: usize = 65536;
 
-/// The next stimulus of the text, or nothing at its end. Blank lines and comments are passed over, and counted. After a bad line the cursor
+/// The next stimulus of the text, or nothing at its end, where the cursor then stands. Blank lines and comments are passed over, and counted. After a bad line the cursor
 /// stays.
 pub fn next_stimulus(
     alloc: Global,
@@ -81,6 +81,7 @@ pub fn next_stimulus(
             }
         }
     }
+    let offset = text.len();
     *cursor = Cursor { offset, line };
     Ok(None)
 }

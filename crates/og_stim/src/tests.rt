@@ -249,7 +249,9 @@ fn small_regions(alloc: Global) -> Result<Regions, NoMemory> {
     Ok(Regions { list })
 }
 
-fn stimulus(alloc: Global, id: StimId) -> Stimulus {
+fn stimulus(alloc: Global, id: StimId) -> Stimulus
+    ensures { result.values ≡ [] }
+{
     Stimulus {
         id,
         values: Items::new(alloc),

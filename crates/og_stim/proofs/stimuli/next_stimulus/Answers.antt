@@ -1,4 +1,4 @@
-use Rattle.std.proofs.Common.{ap, sym, ◌∙◌, drop}
+use Rattle.std.proofs.Common.{ap, refl, sym, ◌∙◌, drop}
 use Rattle.std.specs.Prelude.{Ok}
 use Rattle.std.proofs.lemmas.List.{drop_all}
 use Rattle.og_stim.specs.declared.stimuli.Cursor.{Cursor}
@@ -24,7 +24,9 @@ returns-in-Ok-Some-clause-next c = (
 )
 
 pub returns-clause-next : goal.returns-clause-next
-returns-clause-next c =
-    sym (ap (λ (x : Cursor). next_in c.args.model.now x.line (lines_of (drop x.offset c.args.text.now))) c.loop-offset.invariant.kept)
-    ∙ sym c.loop-offset.invariant.same
-    ∙ ap (λ bs. next_in c.args.model.now c.loop-offset.line (lines_of bs)) (drop_all c.loop-offset.offset c.args.text.now c.loop-offset-test.false)
+returns-clause-next c = (
+  refl,
+  sym (ap (λ (x : Cursor). next_in c.args.model.now x.line (lines_of (drop x.offset c.args.text.now))) c.loop-offset.invariant.kept)
+      ∙ sym c.loop-offset.invariant.same
+      ∙ ap (λ bs. next_in c.args.model.now c.loop-offset.line (lines_of bs)) (drop_all c.loop-offset.offset c.args.text.now c.loop-offset-test.false),
+)
