@@ -16,11 +16,11 @@ use Rattle.og_csubset.proofs.Nested.{Passes, depth, first_within, others_within,
 use Rattle.og_csubset.proofs.WrongPlace.{GoesWrong-unique, spelt_or_wrong, stops}
 use Rattle.og_csubset.proofs.Judged.{judged, cuts_bytes}
 
-cuts_length : (ts : List Token) (bytes rest : List ℕ) → Cuts ts bytes rest → length rest ≤ length bytes
+pub cuts_length : (ts : List Token) (bytes rest : List ℕ) → Cuts ts bytes rest → length rest ≤ length bytes
 cuts_length ts bytes rest c = let w = cuts_bytes ts bytes rest c in omega (arith, ap (λ l. length l) w.1, length-append w.0 rest)
 
 -- without the white space before it, a token begins these bytes
-stripped : (end space here : List ℕ) (t : Token) (rest : List ℕ) → end ≡ space ++ here → list_all is_space space ≡ true → BeginsWithNoSpace here
+pub stripped : (end space here : List ℕ) (t : Token) (rest : List ℕ) → end ≡ space ++ here → list_all is_space space ≡ true → BeginsWithNoSpace here
     → Begins end t rest → here ≡ spelling t ++ rest
 stripped end space here t rest e blank first b =
     let mine : cut is_space end ≡ (space, here) = ap (cut is_space) e ∙ cut-append is_space space here blank (stops here first) in
@@ -28,11 +28,11 @@ stripped end space here t rest e blank first b =
     ap (cut is_space) b.joined ∙ cut-append is_space b.space (spelling t ++ rest) b.blank (no_space_first t rest b.is_token) in
     ap (λ p. p.1) (sym mine ∙ its)
 
-begins_length : (bytes : List ℕ) (t : Token) (rest : List ℕ) → Begins bytes t rest → length (spelling t ++ rest) ≤ length bytes
+pub begins_length : (bytes : List ℕ) (t : Token) (rest : List ℕ) → Begins bytes t rest → length (spelling t ++ rest) ≤ length bytes
 begins_length bytes t rest b = omega (arith, ap (λ l. length l) b.joined, length-append b.space (spelling t ++ rest))
 
 -- the first token that passes does not come before the end of tokens that stay within the limit
-later : (limit : ℕ) (n : Nest) (body end space wrong : List ℕ) (ts us : List Token) (t : Token) (here rest : List ℕ) → Cuts ts body end
+pub later : (limit : ℕ) (n : Nest) (body end space wrong : List ℕ) (ts us : List Token) (t : Token) (here rest : List ℕ) → Cuts ts body end
     → nesting_from n ts ≤ limit → end ≡ space ++ wrong → list_all is_space space ≡ true → BeginsWithNoSpace wrong → Passes limit n body us t here rest
     → length (spelling t ++ rest) ≤ length wrong
 later limit n body end space wrong [] [] t here rest c w e blank first p =
@@ -82,7 +82,7 @@ sooner limit n body end (v ∷ ts) (u ∷ us) t here rest c past p =
     ⊎_elim (λ k. k) (λ k. let all = max-le here_within k in absurd (omega (arith, past, all))) (cases_lt limit (nesting_from (after_token v n) ts)) in
     sooner limit (after_token v n) c.0 end ts us t here rest c.2 more p''
 
-passes : (limit : ℕ) (text before : List ℕ) (h : PassesNesting limit text before) → Passes limit outermost h.body h.tokens h.token h.here h.rest
+pub passes : (limit : ℕ) (text before : List ℕ) (h : PassesNesting limit text before) → Passes limit outermost h.body h.tokens h.token h.here h.rest
 passes limit text before h = record { cuts = h.cuts; begins = h.begins; within = h.within; past = h.past }
 
 abbrev Answer : ℕ → List ℕ → Type 0
@@ -90,11 +90,11 @@ Answer limit text = ((P : CProgram) × CSpells P text × IsWithinNesting limit t
     ⊎ (((before : List ℕ) × IsTooDeep limit text before) ⊎ ((before : List ℕ) × IsBad limit text before))
 
 -- a text that goes wrong in its first line
-bad_at_once : (limit : ℕ) (text : List ℕ) → ((body : List ℕ) → text ≡ first_line ++ body → ⊥) → IsBad limit text []
+pub bad_at_once : (limit : ℕ) (text : List ℕ) → ((body : List ℕ) → text ≡ first_line ++ body → ⊥) → IsBad limit text []
 bad_at_once limit text h = record { wrong = in_first_line h; passes_later = λ other p. omega arith }
 
 -- and one that goes wrong later
-bad_later : (limit : ℕ) (text before : List ℕ) (w : GoesWrongBehind text before) → nesting w.tokens ≤ limit → IsBad limit text before
+pub bad_later : (limit : ℕ) (text before : List ℕ) (w : GoesWrongBehind text before) → nesting w.tokens ≤ limit → IsBad limit text before
 bad_later limit text before w within = record { wrong = behind w; passes_later = not_before }
   where
     not_before : (other : List ℕ) → PassesNesting limit text other → length before ≤ length other

@@ -9,11 +9,11 @@ use Rattle.og_csubset.specs.Wrong.{BeginsProgram, BeginsWithNoSpace, GoesWrongBe
 use Rattle.og_csubset.proofs.Lexing.{cut, StopsAt, cut-append, same_first, nothing_first}
 
 -- one more token at the end of those before
-regroup : (a : List Token) (x : Token) (b : List Token) → (a ++ x ∷ []) ++ b ≡ a ++ x ∷ b
+pub regroup : (a : List Token) (x : Token) (b : List Token) → (a ++ x ∷ []) ++ b ≡ a ++ x ∷ b
 regroup a x b = simp append_assoc
 
 -- a program that begins with more tokens begins with fewer
-fewer : (ts : List Token) (t : Token) (us : List Token) → BeginsProgram (ts ++ t ∷ us) → BeginsProgram (ts ++ t ∷ [])
+pub fewer : (ts : List Token) (t : Token) (us : List Token) → BeginsProgram (ts ++ t ∷ us) → BeginsProgram (ts ++ t ∷ [])
 fewer ts t us h = (h.0, us ++ h.1, subst (λ l. IsProgram h.0 l) (ap (λ l. l ++ h.1) (sym (regroup ts t us)) ∙ append_assoc (ts ++ t ∷ []) us h.1) h.2)
 
 -- from a place on, with these tokens before it: the text goes wrong behind these tokens

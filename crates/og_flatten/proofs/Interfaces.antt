@@ -27,6 +27,7 @@ use Rattle.og_csubset.specs.Fair.{Fair, names_of}
 use Rattle.og_csubset.specs.FlatRun.{slot_names, flat_function_names, flat_event}
 use Rattle.og_csubset.specs.Reads.{Globals, event_shown, event_named, event_of, values_of}
 use Rattle.og_flatten.specs.FlatCode.{code_of, event_word, signal_function, function_if_incoming, signal_functions}
+use Rattle.og_flatten.proofs.Places.{some_is}
 use Rattle.og_flatten.proofs.Basic.{every, empty_is}
 
 -- ---- names that differ
@@ -38,9 +39,6 @@ or_left false b h = refl
 or_right : (a b : Bool) → (a || b) ≡ false → b ≡ false
 or_right true b h = absurd (false≢true (sym h))
 or_right false b h = h
-
-some_is : {A : Type 0} (x y : A) → Some x ≡ Some y → x ≡ y
-some_is x y e = search
 
 own_bytes : (name : List ℕ) → bytes_eq name name ≡ true
 own_bytes name = (bytes_eq-Decides name name).1 refl
@@ -218,7 +216,7 @@ no_outputs M basic k s at =
 abbrev SignalThere : Model → ℕ → Type 0
 SignalThere M k = (s : Signal) × (slice_get M.signals k ≡ Some s)
 
-there : {A : Type 0} (xs : List A) (k : ℕ) → k < length xs → (x : A) × (slice_get xs k ≡ Some x)
+pub there : {A : Type 0} (xs : List A) (k : ℕ) → k < length xs → (x : A) × (slice_get xs k ≡ Some x)
 there [] k lt = absurd (omega (arith, lt))
 there (x ∷ xs) zero lt = (x, refl)
 there (x ∷ xs) (suc k) lt = there xs k (omega (arith, lt))

@@ -77,7 +77,7 @@ pub record BodyAt (entering end : ℕ) (code : List Instr) (cases : List Case) (
   pub from : first ≤ place
   pub to : place + body_length b ≤ last
 
-some_is : {A : Type 0} (x y : A) → Some x ≡ Some y → x ≡ y
+pub some_is : {A : Type 0} (x y : A) → Some x ≡ Some y → x ≡ y
 some_is x y e = search
 
 pub bodies_placed : (entering end n k : ℕ) (before rest : List Instr) (bodies : List Body) (b : Body) → slice_get bodies k ≡ Some b → BodyAt entering end (before ++ (bodies_at entering end bodies ++ rest)) (body_cases n (length before) bodies) (length before) (length before + length_of_bodies bodies) (n + k) b

@@ -46,12 +46,12 @@ use Rattle.og_flatten.proofs.Agreeing.{AtRest, AtHalt, AnswersBy, Answers, Ended
 use Rattle.og_flatten.proofs.Passing.{Passed, none_passed, with_place, elsewhere, not_there}
 use Rattle.og_flatten.proofs.Tracks.{begins, ends, runs_on}
 use Rattle.og_flatten.proofs.SingleSteps.{slots_at, step_of, sets_region, sets_chosen, table_of_chosen, table_of_region, not_stopped}
-use Rattle.og_flatten.proofs.Places.{HasAt, BodyAt, bodies_placed, entering_placed, length_of_all, ChoiceAt, handled_placed, not_handled, has_at}
+use Rattle.og_flatten.proofs.Places.{some_is, HasAt, BodyAt, bodies_placed, entering_placed, length_of_all, ChoiceAt, handled_placed, not_handled, has_at}
 use Rattle.og_flatten.proofs.Basic.{body_is, StateIs, state_is, start_is}
 use Rattle.og_flatten.proofs.Meaning.{whole, start_is_whole, step_takes, step_discards, paths_are}
 use Rattle.og_flatten.proofs.Transitions.{frame, Followed, free_at, Ahead, later_ahead, with_ahead, UsedUp}
 use Rattle.og_flatten.proofs.Wholes.{Rested, follows_whole}
-use Rattle.og_flatten.proofs.Interfaces.{start_placed, SignalAt, signal_at, emits, no_inputs, leaf_of, leaf_at, no_regions}
+use Rattle.og_flatten.proofs.Interfaces.{start_placed, SignalAt, signal_at, emits, no_inputs, leaf_of, leaf_at, no_regions, there}
 
 -- a model of basic states with what holds of it
 pub record IsBasic (M : Model) : Type 0 where
@@ -65,18 +65,7 @@ machine_of M = flat_machine in_64_bits (code_of M) M
 none_more : (k : ℕ) → 0 + k ≡ k
 none_more k = omega (arith)
 
-there : {A : Type 0} (xs : List A) (k : ℕ) → k < length xs → (x : A) × (slice_get xs k ≡ Some x)
-there [] k lt = absurd (omega (arith, lt))
-there (x ∷ xs) zero lt = (x, refl)
-there (x ∷ xs) (suc k) lt = there xs k (omega (arith, lt))
-
-some_is : {A : Type 0} (x y : A) → Some x ≡ Some y → x ≡ y
-some_is x y e = search
-
 -- ---- where bodies and entering code stand
-
-abbrev rest_of : Model → List Instr
-rest_of M = entering_code 0 (states_of M) ++ instr.Back ∷ []
 
 body_placed : (M : Model) (k : ℕ) (b : Body) → slice_get (bodies_of M) k ≡ Some b → BodyAt (first_entering M) (end_place M) (transition_code M) (body_cases 0 1 (bodies_of M)) 1 (first_entering M) k b
 body_placed M k b at =
@@ -167,9 +156,6 @@ regions_are M is =
 leaves_are : (M : Model) → IsBasic M → (k : ℕ) (d : StateDef) → slice_get (states_of M) k ≡ Some d → slice_get (process M).leaves k ≡ Some (leaf_of d)
 leaves_are M is k d at =
     ap (λ (x : Insides). slice_get x.leaves k) (insides_is M.root) ∙ leaf_at insides_of (states_of M) k d (basic_insides M is) at
-
-abbrev globals_of : Model → List Cells → Globals
-globals_of M slots = record { names = slot_names (code_of M); cells = slots }
 
 -- the end at rest, by regions, variables and timers
 abbrev rest_by : Model → Globals → List Region → List Variable → List NameId → Option End

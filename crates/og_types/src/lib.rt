@@ -90,4 +90,11 @@ impl TypeTable {
             sorts: Items::new(alloc),
         }
     }
+
+    /// The types, one after the other.
+    pub fn as_slice(&self) -> &[Sort]
+        ensures { result.now ≡ self.now }
+    {
+        self.sorts.as_slice()
+    }
 }
