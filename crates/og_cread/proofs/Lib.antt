@@ -1,8 +1,3 @@
-pub mod Same
-pub mod Stacks
-pub mod Numerals
-pub mod Cuts
-pub mod Placing
-pub mod Deep
-pub mod Refused
-pub mod Scanning
+pub mod Turns
+pub mod Fronts
+pub mod Programs

@@ -1,4 +1,5 @@
 use super::*;
+use og_base::Place;
 use std::alloc::AllocError;
 use std::test::Fail;
 
@@ -7,8 +8,8 @@ fn outcome(alloc: Global, text: &[u8]) -> Result<String, AllocError> {
     if text.len() > 100000 {
         return String::from_str(alloc, "too long");
     }
-    match accept_c(alloc, text) {
-        Ok(()) => String::from_str(alloc, "ok"),
+    match read_c(alloc, text) {
+        Ok(_) => String::from_str(alloc, "ok"),
         Err(CReadError::Bad(Place { line, column, .. })) => format!(in alloc;
             "bad {line}:{column}"
         ),
@@ -237,6 +238,27 @@ fn the_nesting_of_brackets_is_bounded(rt: HostRuntime) -> Result<(), Fail> {
             body.push(b')')?;
         }
         body.push(b';')?;
+        let text = statements(rt.alloc(), &body)?;
+        assert_eq!(rt; outcome(rt.alloc(), &text)?.as_str(), expected);
+    }
+    Ok(())
+}
+
+#[test]
+fn long_sums_and_long_bodies_are_read(rt: HostRuntime) -> Result<(), Fail> {
+    let cases: [(usize, &[u8], &[u8], &[u8], &str); 4] = [
+        (255, b"x = a", b" + a", b";", "ok"),
+        (256, b"x = a", b" + a", b";", "deep 2:1041"),
+        (255, b"x", b".m", b" = a;", "ok"),
+        (12000, b"", b"x = a;", b"", "ok"),
+    ];
+    for (count, before, part, behind, expected) in cases {
+        let mut body = Vec::new(rt.alloc());
+        body.extend_from_slice(before)?;
+        for _ in 0..count {
+            body.extend_from_slice(part)?;
+        }
+        body.extend_from_slice(behind)?;
         let text = statements(rt.alloc(), &body)?;
         assert_eq!(rt; outcome(rt.alloc(), &text)?.as_str(), expected);
     }

@@ -1,0 +1,6 @@
+pub mod Views
+pub mod Moves
+pub mod Words
+pub mod Nests
+pub mod Places
+pub mod Told

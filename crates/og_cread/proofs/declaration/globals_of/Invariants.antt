@@ -1,0 +1,9 @@
+use Rattle.std.proofs.Common.{◌-◌}
+use Rattle.og_csubset.proofs.Reading.{each_at}
+use Rattle.og_cread.specs.Trees.{global_front}
+use Rattle.og_clex.specs.Views.{tokens_view}
+use Rattle.og_cread.proofs.Turns.{SoFar}
+use Rattle.og_cread.proofs.declaration.globals_of.Given as goal
+
+abbrev pub invariant-loop : goal.invariant-loop
+invariant-loop l = SoFar global_front l.globals (l.turns - l.counter) (tokens_view l.rest) (each_at global_front l.turns (tokens_view l.tokens))

@@ -1,0 +1,9 @@
+use Rattle.std.proofs.Common.{◌-◌}
+use Rattle.og_csubset.proofs.Reading.{each_at}
+use Rattle.og_cread.specs.Trees.{member_front}
+use Rattle.og_clex.specs.Views.{tokens_view}
+use Rattle.og_cread.proofs.Turns.{SoFar}
+use Rattle.og_cread.proofs.declaration.members_of.Given as goal
+
+abbrev pub invariant-loop : goal.invariant-loop
+invariant-loop l = SoFar member_front l.members (l.turns - l.counter) (tokens_view l.rest) (each_at member_front l.turns (tokens_view l.tokens))

@@ -1,0 +1,9 @@
+use Rattle.std.proofs.Common.{◌-◌}
+use Rattle.og_csubset.proofs.Reading.{each_at}
+use Rattle.og_cread.specs.Trees.{struct_front}
+use Rattle.og_clex.specs.Views.{tokens_view}
+use Rattle.og_cread.proofs.Turns.{SoFar}
+use Rattle.og_cread.proofs.declaration.structs_of.Given as goal
+
+abbrev pub invariant-loop : goal.invariant-loop
+invariant-loop l = SoFar (struct_front l.depth) l.structs (l.depth - l.counter) (tokens_view l.rest) (each_at (struct_front l.depth) l.depth (tokens_view l.tokens))

@@ -1,6 +1,0 @@
-use Rattle.std.proofs.Common.{◌≡◌, drop}
-use Rattle.og_cread.specs.Words.{keyword_among}
-use Rattle.og_cread.proofs.lex.keyword_among.Given as goal
-
-abbrev pub invariant-loop-keyword : goal.invariant-loop-keyword
-invariant-loop-keyword l = keyword_among (drop l.keyword-index l.keywords) l.word ≡ keyword_among l.keywords l.word
