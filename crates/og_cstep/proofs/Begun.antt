@@ -10,9 +10,9 @@ use Rattle.og_csubset.specs.Interface.{Field, inputs_of}
 use Rattle.og_csubset.specs.Reads.{inputs_set}
 use Rattle.og_csubset.specs.Run.{entered, begun}
 use Rattle.og_cstep.specs.declared.Advance.{Advance}
-use Rattle.og_cstep.specs.declared.machine.Position.{Position}
-use Rattle.og_cstep.specs.declared.machine.Position.TheVariants.{Running, Idle, Stuck}
-use Rattle.og_cstep.specs.Machines.{Run, config_of, globals_at, CanBegin, stimulus_of, function_name, begins}
+use Rattle.og_clink.specs.declared.position.Position.{Position}
+use Rattle.og_clink.specs.Positions.{config_of}
+use Rattle.og_cstep.specs.Machines.{Run, stimulus_of, function_name, begins}
 
 nothing_set : (model : Model) (names : List (List ℕ)) (fields : List Field) (cells : List Cells) → inputs_set model names fields [] cells ≡ cells
 nothing_set model names [] cells = refl
@@ -25,21 +25,15 @@ begun_is model functions names (Signal k) globals =
     ap (entered (place_in (function_name model (Signal k)) functions)) (nothing_set model names (inputs_of model k) globals)
 begun_is model functions names (Timer k) globals = refl
 
-globals_back : (globals : List Cells) (position : Position) (last : Option Advance) → CanBegin (config_of globals position) last → globals_at (config_of globals position) ≡ globals
-globals_back globals (Running call callers) last can = elim can [ ]
-globals_back globals Idle last can = refl
-globals_back globals (Stuck rule) last can = elim can [ ]
-
 -- the run of a stimulus begins in its function
 pub begun_run : (program : CProgram) (model : Model) (globals : List Cells) (old position : Position) (last : Option Advance) (stimulus : StimId) (name : List ℕ) (found : Option ℕ)
-    → CanBegin (config_of globals old) last → name ≡ function_name model stimulus → found ≡ place_in name (function_names program)
+    → name ≡ function_name model stimulus → found ≡ place_in name (function_names program)
     → ((cells : List Cells) → config_of cells position ≡ entered found cells)
-    → ◌≡◌ {A = Run} (record { program = program; model = model; config = config_of globals position; last = last })
-    (begins stimulus (record { program = program; model = model; config = config_of globals old; last = last }))
-begun_run program model globals old position last stimulus name found can n f enters =
-    let start : config_of globals position ≡ begun model (function_names program) (global_names program) (stimulus_of stimulus) (globals_at (config_of globals old)) =
+    → ◌≡◌ {A = Run} (record { program = program; model = model; cells = globals; config = config_of globals position; last = last })
+    (begins stimulus (record { program = program; model = model; cells = globals; config = config_of globals old; last = last }))
+begun_run program model globals old position last stimulus name found n f enters =
+    let start : config_of globals position ≡ begun model (function_names program) (global_names program) (stimulus_of stimulus) globals =
     enters globals
     ∙ ap (λ x. entered x globals) (f ∙ ap (λ w. place_in w (function_names program)) n)
-    ∙ sym (begun_is model (function_names program) (global_names program) stimulus globals)
-    ∙ ap (begun model (function_names program) (global_names program) (stimulus_of stimulus)) (sym (globals_back globals old last can)) in
-    ap (λ c. record { program = program; model = model; config = c; last = last }) start
+    ∙ sym (begun_is model (function_names program) (global_names program) stimulus globals) in
+    ap (λ c. record { program = program; model = model; cells = globals; config = c; last = last }) start

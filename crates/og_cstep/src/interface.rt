@@ -1,236 +1,258 @@
-//! A program has the interface of its model.
-#![tactic(auto, using(crate::proofs::Loops::loops, crate::proofs::Declared::declared))]
+//! The globals of a model's interface among those of a program, and what they say.
+#![tactic(auto, using(og_cload::proofs::Loops::loops, og_cload::proofs::Places::places, og_cload::proofs::Grown::grown, crate::proofs::Slotted::slotted))]
 
-ghost use Rattle.std.specs.Prelude.{◌≡◌, ℕ, map, length, IfOk};
-ghost use Rattle.std.specs.List.{list_all};
+ghost use Rattle.std.specs.Prelude.{◌≡◌, IfOk, map, length};
+ghost use Rattle.std.specs.Option.{is_some};
 ghost use Rattle.og_model.specs.Regions.{regions as regions_of};
-ghost use Rattle.og_csubset.specs.Interface as interface;
-ghost use Rattle.og_csubset.specs.Interface.{incoming_from, numbers_below, signal_function, timer_function};
-ghost use Rattle.og_csubset.specs.Kinds.{is_in as is_among, event_names as names_of_events};
-ghost use Rattle.og_csubset.specs.Loading.{all_names as names_of_all, has_event as has_event_of, breaks_K9};
-ghost use Rattle.og_csubset.specs.Reads.{event_named as event_of_name};
-ghost use Rattle.og_cstep.specs.Names.{names_in};
-ghost use Rattle.og_cstep.specs.Fields.{field_of, fields_in, has_field_over, free_or_has};
+ghost use Rattle.og_ccells.specs.Trees.{cells_of};
+ghost use Rattle.og_cstep.specs.Answered.{answer_at_end, globals_in};
+ghost use Rattle.og_csubset.specs.Interface.{numbers_below, variable_fields, timer_fields};
+ghost use Rattle.og_csubset.specs.Kinds.{global_names, place_in as place_among};
+ghost use Rattle.og_csubset.specs.Reads.{end_of, event_shown};
+ghost use Rattle.og_cload.specs.Fields.{field_of, fields_in};
+ghost use Rattle.og_cstep.specs.Interfaces.{interface_of, interface_among, slot_named, slots_named, region_slot as slot_of_region, signal_slots as slots_of_signal, duration_place as place_of_duration};
 
-use crate::fields::{
-    Field, count_of, event_globals, event_name, events_of, fields_of, joined, signal_name,
-    timer_name,
+use crate::Advance;
+use crate::ends::{end_answer, shows};
+use og_ccells::Tree;
+use og_cload::fields::{
+    Field, Shape, add_inputs, add_timer_fields, add_variables, count_of, duration_name, outputs_of,
+    region_name,
 };
-use crate::kinds::global_kind;
-use crate::names::{all_names, event_names, function_names, is_in};
-use crate::shapes::is_shaped;
-use og_csubset::CProgram;
-use og_model::{EventId, Model, Region, Signal};
-use og_names::{NoMemory, Word};
-use og_types::Sort;
+use og_csubset::{CGlobal, CProgram};
+use og_model::{EventId, Model, Region};
+use og_names::NoMemory;
+use sqlite_items::Items;
 use std::alloc::Global;
 
-/// An interface name missing or of another shape, or an event that is not the model's.
-pub fn breaks_k9(
+/// The number of a global, where the program has it, and what its cells hold.
+#[derive(Drop)]
+pub struct Slot {
+    pub place: Option<usize>,
+    pub shape: Shape,
+}
+
+/// The number of the global of a region's active leaf, and how many leaves the region has.
+#[derive(Drop)]
+pub struct RegionSlot {
+    pub place: Option<usize>,
+    pub leaves: u32,
+}
+
+/// The globals of a signal's parameters: those that an input sets, and those that an output is read from.
+#[derive(Drop)]
+pub struct SignalSlots {
+    pub inputs: Items<Slot>,
+    pub outputs: Items<Slot>,
+}
+
+/// The numbers of the globals of an interface. Regions, variables, timers and signals stand in the order of the model.
+#[derive(Drop)]
+pub struct Interface {
+    pub kind: Option<usize>,
+    pub stopped: Option<usize>,
+    pub file: Option<usize>,
+    pub line: Option<usize>,
+    pub column: Option<usize>,
+    pub regions: Items<RegionSlot>,
+    pub variables: Items<Slot>,
+    /// Whether each timer is active.
+    pub timers: Items<Slot>,
+    /// The duration to which each timer is set.
+    pub durations: Items<Option<usize>>,
+    /// What is read as the duration of a number that is no timer's.
+    pub no_duration: Option<usize>,
+    pub signals: Items<SignalSlots>,
+}
+
+/// Looks up the globals of the interface. The regions are those of the model.
+pub fn find_interface(
     alloc: Global,
     program: &CProgram,
     model: &Model,
-    sorts: &[Sort],
     regions: &[Region],
-) -> Result<bool, NoMemory>
-    requires sorts { sorts.now ≡ model.now.types }
-    requires regions { regions.now ≡ regions_of model.now }
-    ensures { IfOk result (λ broken. broken ≡ breaks_K9 program.now model.now) }
+) -> Result<Interface, NoMemory>
+    requires { regions.now ≡ regions_of model.now }
+    ensures { IfOk result (λ interface. interface ≡ interface_of program.now model.now) }
 {
-    if !has_functions(alloc, program, model)? {
-        return Ok(true);
-    }
-    let fields = fields_of(alloc, model, regions)?;
-    if !has_fields(program, sorts, fields.as_slice()) {
-        return Ok(true);
-    }
-    let events = events_of(alloc, model)?;
-    if !has_events(alloc, program, model, sorts, events.as_slice())? {
-        return Ok(true);
-    }
-    let known = are_events(alloc, model, program.events.as_slice(), events.as_slice())?;
-    Ok(!known)
+    let globals = program.globals.as_slice();
+    let regions = region_slots(alloc, model, globals, regions)?;
+    let variables = variable_slots(alloc, model, globals)?;
+    let timers = timer_slots(alloc, model, globals)?;
+    let durations = duration_places(alloc, model, globals)?;
+    let signals = signal_slots(alloc, model, globals)?;
+    Ok(Interface {
+        kind: place_of(b"f_kind", globals),
+        stopped: place_of(b"stopped", globals),
+        file: place_of(b"f_file", globals),
+        line: place_of(b"f_line", globals),
+        column: place_of(b"f_column", globals),
+        regions,
+        variables,
+        timers,
+        durations,
+        no_duration: place_of(b"d_", globals),
+        signals,
+    })
 }
 
-fn has_functions(alloc: Global, program: &CProgram, model: &Model) -> Result<bool, NoMemory>
-    ensures { IfOk result (λ has. has ≡ list_all (λ name. is_among name (map (λ f. f.name.bytes) program.now.functions)) (interface.functions_of model.now)) }
+/// The number of a global.
+fn place_of(name: &[u8], globals: &[CGlobal]) -> Option<usize>
+    ensures { result ≡ place_among name.now (map (λ g. g.name.bytes) globals.now) }
 {
-    let names = function_names(alloc, program)?;
-    if !is_in(b"start", names.as_slice()) {
-        return Ok(false);
-    }
-    if !has_signals(alloc, model, model.signals.as_slice(), names.as_slice())? {
-        return Ok(false);
-    }
-    has_timers(alloc, model, names.as_slice())
-}
-
-fn has_signals(
-    alloc: Global,
-    model: &Model,
-    signals: &[Signal],
-    names: &[&[u8]],
-) -> Result<bool, NoMemory>
-    ensures { IfOk result (λ has. has ≡ list_all (λ k. is_among (signal_function model.now k) (names_in names.now)) (incoming_from 0 signals.now)) }
-{
-    let count = count_of(signals.len())?;
-    for signal in 0..count {
-        if signals[signal as usize].incoming {
-            let name = joined(alloc, b"on_", signal_name(model, signal))?;
-            if !is_in(name.bytes.as_slice(), names) {
-                return Ok(false);
-            }
+    for (place, global) in globals.iter().enumerate() {
+        if name == global.name.bytes.as_slice() {
+            return Some(place);
         }
     }
-    Ok(true)
+    None
 }
 
-fn has_timers(alloc: Global, model: &Model, names: &[&[u8]]) -> Result<bool, NoMemory>
-    ensures { IfOk result (λ has. has ≡ list_all (λ k. is_among (timer_function model.now k) (names_in names.now)) (numbers_below (length model.now.timers))) }
+fn slot_of(field: &Field, globals: &[CGlobal]) -> Slot
+    ensures { result ≡ slot_named (map (λ g. g.name.bytes) globals.now) (field_of field.now) }
+{
+    Slot {
+        place: place_of(field.name.bytes.as_slice(), globals),
+        shape: field.shape,
+    }
+}
+
+fn slots_of(alloc: Global, fields: &[Field], globals: &[CGlobal]) -> Result<Items<Slot>, NoMemory>
+    ensures { IfOk result (λ slots. slots ≡ slots_named (map (λ g. g.name.bytes) globals.now) (fields_in fields.now)) }
+{
+    let mut slots = Items::new(alloc);
+    for field in fields {
+        slots.push(slot_of(field, globals))?;
+    }
+    Ok(slots)
+}
+
+fn region_slot(
+    alloc: Global,
+    model: &Model,
+    globals: &[CGlobal],
+    region: &Region,
+) -> Result<RegionSlot, NoMemory>
+    ensures { IfOk result (λ slot. slot ≡ slot_of_region (map (λ g. g.name.bytes) globals.now) model.now region.now) }
+{
+    let name = region_name(alloc, model, region)?;
+    let leaves = count_of(region.leaves.len())?;
+    Ok(RegionSlot {
+        place: place_of(name.bytes.as_slice(), globals),
+        leaves,
+    })
+}
+
+fn region_slots(
+    alloc: Global,
+    model: &Model,
+    globals: &[CGlobal],
+    regions: &[Region],
+) -> Result<Items<RegionSlot>, NoMemory>
+    ensures { IfOk result (λ slots. slots ≡ map (slot_of_region (map (λ g. g.name.bytes) globals.now) model.now) regions.now) }
+{
+    let mut slots = Items::new(alloc);
+    for region in regions {
+        let slot = region_slot(alloc, model, globals, region)?;
+        slots.push(slot)?;
+    }
+    Ok(slots)
+}
+
+fn variable_slots(
+    alloc: Global,
+    model: &Model,
+    globals: &[CGlobal],
+) -> Result<Items<Slot>, NoMemory>
+    ensures { IfOk result (λ slots. slots ≡ slots_named (map (λ g. g.name.bytes) globals.now) (variable_fields model.now)) }
+{
+    let mut fields = Vec::new(alloc);
+    add_variables(alloc, model, &mut fields, model.variables.as_slice())?;
+    let slots = slots_of(alloc, fields.as_slice(), globals)?;
+    Ok(slots)
+}
+
+fn timer_slots(alloc: Global, model: &Model, globals: &[CGlobal]) -> Result<Items<Slot>, NoMemory>
+    ensures { IfOk result (λ slots. slots ≡ slots_named (map (λ g. g.name.bytes) globals.now) (timer_fields model.now)) }
+{
+    let mut fields = Vec::new(alloc);
+    add_timer_fields(alloc, model, &mut fields, model.timers.as_slice())?;
+    let slots = slots_of(alloc, fields.as_slice(), globals)?;
+    Ok(slots)
+}
+
+fn duration_places(
+    alloc: Global,
+    model: &Model,
+    globals: &[CGlobal],
+) -> Result<Items<Option<usize>>, NoMemory>
+    ensures { IfOk result (λ places. places ≡ map (place_of_duration (map (λ g. g.name.bytes) globals.now) model.now) (numbers_below (length model.now.timers))) }
 {
     let count = count_of(model.timers.len())?;
+    let mut places = Items::new(alloc);
     for timer in 0..count {
-        let has = has_timer(alloc, model, timer, names)?;
-        if !has {
-            return Ok(false);
-        }
+        let name = duration_name(alloc, model, timer)?;
+        places.push(place_of(name.bytes.as_slice(), globals))?;
     }
-    Ok(true)
+    Ok(places)
 }
 
-fn has_timer(alloc: Global, model: &Model, timer: u32, names: &[&[u8]]) -> Result<bool, NoMemory>
-    ensures { IfOk result (λ has. has ≡ is_among (timer_function model.now timer) (names_in names.now)) }
-{
-    let name = joined(alloc, b"at_", timer_name(model, timer))?;
-    Ok(is_in(name.bytes.as_slice(), names))
-}
-
-/// The global is declared, with its shape.
-fn has_field(program: &CProgram, sorts: &[Sort], field: &Field) -> bool
-    ensures { result ≡ has_field_over program.now sorts.now (field_of field.now) }
-{
-    match global_kind(program, field.name.bytes.as_slice()) {
-        None => false,
-        Some(held) => is_shaped(program.structs.as_slice(), sorts, field.shape, held.of),
-    }
-}
-
-fn has_fields(program: &CProgram, sorts: &[Sort], fields: &[Field]) -> bool
-    ensures { result ≡ list_all (has_field_over program.now sorts.now) (fields_in fields.now) }
-{
-    for field in fields {
-        if !has_field(program, sorts, field) {
-            return false;
-        }
-    }
-    true
-}
-
-/// Each of the globals is declared with its shape, or not at all.
-fn are_free_or_fit(program: &CProgram, names: &[&[u8]], sorts: &[Sort], fields: &[Field]) -> bool
-    ensures { result ≡ list_all (free_or_has program.now sorts.now (names_in names.now)) (fields_in fields.now) }
-{
-    for field in fields {
-        if is_in(field.name.bytes.as_slice(), names) && !has_field(program, sorts, field) {
-            return false;
-        }
-    }
-    true
-}
-
-fn has_events(
+/// The globals of one signal's parameters.
+fn slots_of_one(
     alloc: Global,
+    model: &Model,
+    globals: &[CGlobal],
+    signal: u32,
+) -> Result<SignalSlots, NoMemory>
+    ensures { IfOk result (λ slots. slots ≡ slots_of_signal (map (λ g. g.name.bytes) globals.now) model.now signal) }
+{
+    let mut inputs = Vec::new(alloc);
+    add_inputs(alloc, model, &mut inputs, signal)?;
+    let outputs = outputs_of(alloc, model, signal)?;
+    let inputs = slots_of(alloc, inputs.as_slice(), globals)?;
+    let outputs = slots_of(alloc, outputs.as_slice(), globals)?;
+    Ok(SignalSlots { inputs, outputs })
+}
+
+fn signal_slots(
+    alloc: Global,
+    model: &Model,
+    globals: &[CGlobal],
+) -> Result<Items<SignalSlots>, NoMemory>
+    ensures { IfOk result (λ slots. slots ≡ map (slots_of_signal (map (λ g. g.name.bytes) globals.now) model.now) (numbers_below (length model.now.signals))) }
+{
+    let count = count_of(model.signals.len())?;
+    let mut slots = Items::new(alloc);
+    for signal in 0..count {
+        let one = slots_of_one(alloc, model, globals, signal)?;
+        slots.push(one)?;
+    }
+    Ok(slots)
+}
+
+/// How a run has ended whose last function has returned.
+pub fn answer_of_end(
     program: &CProgram,
     model: &Model,
-    sorts: &[Sort],
-    events: &[EventId],
-) -> Result<bool, NoMemory>
-    requires { sorts.now ≡ model.now.types }
-    ensures { IfOk result (λ has. has ≡ list_all (has_event_of program.now model.now) events.now) }
+    interface: &Interface,
+    globals: &[Tree],
+) -> Advance
+    requires { interface.now ≡ interface_of program.now model.now }
+    ensures { result ≡ answer_at_end (end_of model.now (global_names program.now) (map cells_of globals.now)) }
 {
-    let declared = event_names(alloc, program)?;
-    let all = all_names(alloc, program)?;
-    for event in events {
-        let has = has_event(
-            alloc,
-            program,
-            model,
-            sorts,
-            declared.as_slice(),
-            all.as_slice(),
-            *event,
-        )?;
-        if !has {
-            return Ok(false);
-        }
-    }
-    Ok(true)
+    end_answer(model.types.as_slice(), interface, globals)
 }
 
-/// What is declared under the names of an event is that event with its globals.
-fn has_event(
-    alloc: Global,
+/// Whether the values of an event can be read.
+pub fn can_show(
     program: &CProgram,
     model: &Model,
-    sorts: &[Sort],
-    declared: &[&[u8]],
-    all: &[&[u8]],
+    interface: &Interface,
+    globals: &[Tree],
     event: EventId,
-) -> Result<bool, NoMemory>
-    requires sorts { sorts.now ≡ model.now.types }
-    requires declared { names_in declared.now ≡ names_of_events program.now }
-    requires all { names_in all.now ≡ names_of_all program.now }
-    ensures { IfOk result (λ has. has ≡ has_event_of program.now model.now event) }
+) -> bool
+    requires { interface.now ≡ interface_of program.now model.now }
+    ensures { result ≡ is_some (event_shown model.now (globals_in program.now globals.now) event) }
 {
-    let name = event_name(alloc, model, event)?;
-    let globals = event_globals(alloc, model, event)?;
-    if is_in(name.bytes.as_slice(), declared) {
-        return Ok(has_fields(program, sorts, globals.as_slice()));
-    }
-    if is_in(name.bytes.as_slice(), all) {
-        return Ok(false);
-    }
-    Ok(are_free_or_fit(program, all, sorts, globals.as_slice()))
-}
-
-/// Each of the names is that of an event.
-fn are_events(
-    alloc: Global,
-    model: &Model,
-    names: &[Word],
-    events: &[EventId],
-) -> Result<bool, NoMemory>
-    ensures { IfOk result (λ are. are ≡ list_all (λ name. is_among name (map (interface.event_name model.now) events.now)) (map (λ e. e.bytes) names.now)) }
-{
-    for name in names {
-        if !is_event(alloc, model, name.bytes.as_slice(), events)? {
-            return Ok(false);
-        }
-    }
-    Ok(true)
-}
-
-fn is_event(alloc: Global, model: &Model, name: &[u8], events: &[EventId]) -> Result<bool, NoMemory>
-    ensures { IfOk result (λ is. is ≡ is_among name.now (map (interface.event_name model.now) events.now)) }
-{
-    let found = event_named(alloc, model, name, events)?;
-    Ok(found.is_some())
-}
-
-/// The event of a name.
-pub fn event_named(
-    alloc: Global,
-    model: &Model,
-    name: &[u8],
-    events: &[EventId],
-) -> Result<Option<EventId>, NoMemory>
-    ensures { IfOk result (λ event. event ≡ event_of_name model.now name.now events.now) }
-{
-    for event in events {
-        let other = event_name(alloc, model, *event)?;
-        if name == other.bytes.as_slice() {
-            return Ok(Some(*event));
-        }
-    }
-    Ok(None)
+    shows(model.types.as_slice(), interface, globals, event)
 }

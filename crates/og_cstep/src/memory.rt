@@ -2,16 +2,7 @@
 ghost use Rattle.std.specs.Prelude.{◌≡◌};
 
 use crate::LoadError;
-use og_model::StuckRule;
 use og_names::NoMemory;
-use std::alloc::AllocFailed;
-
-/// Why a statement is not carried out.
-#[derive(Clone, Copy, Debug, PartialEq, Eq)]
-pub enum Halt {
-    Stuck(StuckRule),
-    NoMemory,
-}
 
 impl From<NoMemory> for LoadError {
     ghost use Rattle.og_cstep.specs.declared.LoadError.TheVariants as load_error;
@@ -20,35 +11,5 @@ impl From<NoMemory> for LoadError {
 
     fn from(_error: NoMemory) -> LoadError {
         LoadError::NoMemory
-    }
-}
-
-impl From<StuckRule> for Halt {
-    ghost use Rattle.og_cstep.specs.declared.memory.Halt.TheVariants as halt;
-
-    ghost from_gives = { λ rule error. error ≡ halt.Stuck rule };
-
-    fn from(rule: StuckRule) -> Halt {
-        Halt::Stuck(rule)
-    }
-}
-
-impl From<NoMemory> for Halt {
-    ghost use Rattle.og_cstep.specs.declared.memory.Halt.TheVariants as halt;
-
-    ghost from_gives = { λ _ error. error ≡ halt.NoMemory };
-
-    fn from(_error: NoMemory) -> Halt {
-        Halt::NoMemory
-    }
-}
-
-impl<T: Drop> From<AllocFailed<T>> for Halt {
-    ghost use Rattle.og_cstep.specs.declared.memory.Halt.TheVariants as halt;
-
-    ghost from_gives = { λ _ error. error ≡ halt.NoMemory };
-
-    fn from(_error: AllocFailed<T>) -> Halt {
-        Halt::NoMemory
     }
 }

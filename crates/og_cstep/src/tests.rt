@@ -1,9 +1,8 @@
-ghost use Rattle.std.specs.Prelude.{◌≡◌, [], IfOk};
-
-use crate::cells::first_globals;
-use crate::memory::Halt;
-use crate::value::{Globals, value_of};
-use crate::{LoadError, LoadRule, Machine, StimId, StuckRule};
+use crate::interface::{answer_of_end, can_show, find_interface};
+use crate::reading::{leaf_at, number_in};
+use crate::{Advance, EventId, FaultKind, LoadError, LoadRule, Machine, StimId, StuckRule};
+use og_base::Place;
+use og_ccells::Tree;
 use og_csubset::{
     CCase, CExpr, CFunction, CGlobal, CMember, COp, CPlace, CProgram, CRel, CStep, CStmt, CStruct,
     CTest, CType,
@@ -27,9 +26,7 @@ fn names(alloc: Global) -> Result<Names, NoMemory> {
 }
 
 /// A process that rests in one state. The signal `go` comes in, and `done` goes out.
-fn model(alloc: Global) -> Result<Model, NoMemory>
-    ensures { IfOk result (λ model. model.types ≡ []) }
-{
+fn model(alloc: Global) -> Result<Model, NoMemory> {
     let mut signals = Items::new(alloc);
     for (name, incoming) in [(2, true), (3, false)] {
         signals.push(Signal {
@@ -42,7 +39,7 @@ fn model(alloc: Global) -> Result<Model, NoMemory>
     let mut states = Items::new(alloc);
     states.push(StateDef {
         name: NameId(1),
-        place: og_base::Place {
+        place: Place {
             file: 0,
             line: 1,
             column: 1,
@@ -248,7 +245,7 @@ fn broken(alloc: Global, case: u32) -> Result<Option<LoadRule>, NoMemory> {
     let model = model(alloc)?;
     let regions = number(alloc, &model)?;
     let program = program(alloc, case)?;
-    match Machine::load_with_types(alloc, &program, &model, &[], &regions) {
+    match Machine::load(alloc, &program, &model, &regions) {
         Ok(_) => Ok(None),
         Err(LoadError::BadProgram(rule)) => Ok(Some(rule)),
         Err(LoadError::NoMemory) => Err(NoMemory),
@@ -282,124 +279,184 @@ fn each_rule_is_reported_and_the_first_one_broken(rt: HostRuntime) -> Result<(),
     Ok(())
 }
 
-fn number_expression(number: i64) -> CExpr {
-    CExpr::Number(number)
-}
-
-fn of_two(alloc: Global, op: COp, left: CExpr, right: CExpr) -> Result<CExpr, NoMemory> {
-    Ok(CExpr::Op(op, Boxed::new(alloc, left)?, Boxed::new(alloc, right)?))
-}
-
-fn of_numbers(alloc: Global, op: COp, left: i64, right: i64) -> Result<CExpr, NoMemory> {
-    of_two(alloc, op, number_expression(left), number_expression(right))
-}
-
-/// The first expression where 1 is less than `than`, and the second otherwise.
-fn choice(alloc: Global, than: i64, yes: CExpr, no: CExpr) -> Result<CExpr, NoMemory> {
-    let test = CTest {
-        op: CRel::Lt,
-        left: Boxed::new(alloc, number_expression(1))?,
-        right: Boxed::new(alloc, number_expression(than))?,
-    };
-    Ok(CExpr::Pick(test, Boxed::new(alloc, yes)?, Boxed::new(alloc, no)?))
-}
-
-/// The element of `w.e` at an index.
-fn at(alloc: Global, index: CExpr) -> Result<CExpr, NoMemory> {
-    let mut path = Items::new(alloc);
-    path.push(CStep::Member(word(alloc, "e")?))?;
-    path.push(CStep::At(index))?;
-    Ok(CExpr::Read(CPlace {
-        name: word(alloc, "w")?,
-        path,
-    }))
-}
-
-/// The value over the program's first globals.
-fn value(alloc: Global, expression: &CExpr) -> Result<Result<i64, StuckRule>, NoMemory> {
-    let program = base(alloc)?;
-    let globals = Globals {
-        trees: first_globals(alloc, &program)?,
-    };
-    match value_of(alloc, &program, &globals, expression) {
-        Ok(number) => Ok(Ok(number)),
-        Err(Halt::Stuck(rule)) => Ok(Err(rule)),
-        Err(Halt::NoMemory) => Err(NoMemory),
-    }
-}
-
-#[test]
-fn quotients_are_truncated_and_numbers_stay_in_64_bits(rt: HostRuntime) -> Result<(), NoMemory> {
-    for (op, left, right, result) in [
-        (COp::Add, 2, 3, Ok(5)),
-        (COp::Add, i64::MAX, 1, Err(StuckRule::Overflow)),
-        (COp::Sub, i64::MIN, 1, Err(StuckRule::Overflow)),
-        (COp::Mul, -3, 4, Ok(-12)),
-        (COp::Mul, i64::MIN, -1, Err(StuckRule::Overflow)),
-        (COp::Div, -7, 2, Ok(-3)),
-        (COp::Div, 7, 0, Err(StuckRule::Divide)),
-        (COp::Div, i64::MIN, -1, Err(StuckRule::Overflow)),
-        (COp::Rem, -7, 2, Ok(-1)),
-        (COp::Rem, 7, -2, Ok(1)),
-        (COp::Rem, 7, 0, Err(StuckRule::Divide)),
-        (COp::Rem, i64::MIN, -1, Err(StuckRule::Overflow)),
-    ] {
-        let expression = of_numbers(rt.alloc(), op, left, right)?;
-        assert!(rt; value(rt.alloc(), &expression)? == result, "{left} {right}");
-    }
-    Ok(())
-}
-
-/// A sum that is past 64 bits beside a divisor of zero, in each order and on each side of a choice.
-fn in_order(alloc: Global, case: u32) -> Result<CExpr, NoMemory> {
-    let past = of_numbers(alloc, COp::Add, i64::MAX, 1)?;
-    let zero = of_numbers(alloc, COp::Div, 1, 0)?;
-    match case {
-        0 => of_two(alloc, COp::Add, past, zero),
-        1 => of_two(alloc, COp::Add, zero, past),
-        2 => choice(alloc, 2, past, zero),
-        _ => choice(alloc, 1, past, zero),
-    }
-}
-
-#[test]
-fn operands_go_from_left_to_right_and_a_choice_takes_one_side(
-    rt: HostRuntime,
-) -> Result<(), NoMemory> {
-    for (case, rule) in [
-        (0, StuckRule::Overflow),
-        (1, StuckRule::Divide),
-        (2, StuckRule::Overflow),
-        (3, StuckRule::Divide),
-    ] {
-        let expression = in_order(rt.alloc(), case)?;
-        assert!(rt; value(rt.alloc(), &expression)? == Err(rule), "case {case}");
-    }
-    Ok(())
-}
-
-#[test]
-fn an_index_lies_inside_its_array(rt: HostRuntime) -> Result<(), NoMemory> {
-    for (index, result) in [
-        (0, Ok(0)),
-        (1, Ok(0)),
-        (2, Err(StuckRule::Index)),
-        (-1, Err(StuckRule::Index)),
-    ] {
-        let element = at(rt.alloc(), number_expression(index))?;
-        assert!(rt; value(rt.alloc(), &element)? == result, "index {index}");
-    }
-    Ok(())
-}
-
 #[test]
 fn a_loaded_machine_begins_with_the_start(rt: HostRuntime) -> Result<(), NoMemory> {
     let alloc = rt.alloc();
     let model = model(alloc)?;
     let regions = number(alloc, &model)?;
     let program = program(alloc, 0)?;
-    let Ok(mut machine) = Machine::load_with_types(alloc, &program, &model, &[], &regions) else {
+    let Ok(mut machine) = Machine::load(alloc, &program, &model, &regions) else {
         return Err(NoMemory);
     };
     machine.begin(StimId::Start)
+}
+
+/// The model with a timer `done`.
+fn model_with_timer(alloc: Global) -> Result<Model, NoMemory> {
+    let mut model = model(alloc)?;
+    model.timers.push(NameId(3))?;
+    Ok(model)
+}
+
+/// The globals of the model with a timer, in this order.
+fn program_with_timer(alloc: Global) -> Result<CProgram, NoMemory> {
+    let mut program = CProgram {
+        structs: Items::new(alloc),
+        globals: Items::new(alloc),
+        events: Items::new(alloc),
+        functions: Items::new(alloc),
+    };
+    for name in [
+        "r", "stopped", "f_kind", "f_file", "f_line", "f_column", "t_done", "d_done",
+    ] {
+        add_global(alloc, &mut program, name, "")?;
+    }
+    Ok(program)
+}
+
+fn cells(alloc: Global, numbers: &[i64]) -> Result<Items<Tree>, NoMemory> {
+    let mut trees = Items::new(alloc);
+    for number in numbers {
+        trees.push(Tree::Cell(*number))?;
+    }
+    Ok(trees)
+}
+
+/// How a run ends whose globals hold these numbers.
+fn ended(alloc: Global, numbers: &[i64]) -> Result<Advance, NoMemory> {
+    let model = model_with_timer(alloc)?;
+    let regions = number(alloc, &model)?;
+    let program = program_with_timer(alloc)?;
+    let interface = find_interface(alloc, &program, &model, regions.list.as_slice())?;
+    let globals = cells(alloc, numbers)?;
+    Ok(answer_of_end(&program, &model, &interface, globals.as_slice()))
+}
+
+/// Whether an event can be shown where the duration is this number.
+fn shown(alloc: Global, duration: i64, event: EventId) -> Result<bool, NoMemory> {
+    let model = model_with_timer(alloc)?;
+    let regions = number(alloc, &model)?;
+    let program = program_with_timer(alloc)?;
+    let interface = find_interface(alloc, &program, &model, regions.list.as_slice())?;
+    let globals = cells(alloc, &[0, 0, 0, 0, 0, 0, 0, duration])?;
+    Ok(can_show(&program, &model, &interface, globals.as_slice(), event))
+}
+
+const NO_VALUE: Advance = Advance::Stuck(StuckRule::Value);
+
+fn fault(kind: FaultKind, line: u32) -> Advance {
+    let place = Place {
+        file: 63,
+        line,
+        column: 9,
+    };
+    Advance::Fault(kind, place)
+}
+
+#[test]
+fn rest_needs_a_leaf_of_the_region_and_truth_values_of_timers(
+    rt: HostRuntime,
+) -> Result<(), NoMemory> {
+    let cases = [
+        ([0, 0, 0, 0, 0, 0, 0, 0], Advance::Rest),
+        ([-1, 0, 0, 0, 0, 0, 1, -5], Advance::Rest),
+        ([1, 0, 0, 0, 0, 0, 0, 0], NO_VALUE),
+        ([0, 0, 0, 0, 0, 0, 2, 0], NO_VALUE),
+        ([0, 0, 0, 0, 0, 0, -1, 0], NO_VALUE),
+        ([1, 1, 0, 0, 0, 0, 2, 0], Advance::Stopped),
+        ([0, -1, 0, 0, 0, 0, 0, 0], Advance::Stopped),
+    ];
+    for (numbers, answer) in cases {
+        assert_eq!(rt; ended(rt.alloc(), &numbers)?, answer);
+    }
+    Ok(())
+}
+
+#[test]
+fn a_fault_has_its_kind_and_place_and_comes_before_stopped(
+    rt: HostRuntime,
+) -> Result<(), NoMemory> {
+    let cases = [
+        ([0, 1, 1, 63, 7, 9, 0, 0], fault(FaultKind::Range, 7)),
+        ([0, 0, 2, 63, 7, 9, 0, 0], fault(FaultKind::Index, 7)),
+        ([9, 0, 3, 63, 7, 9, 0, 0], fault(FaultKind::Division, 7)),
+        ([0, 0, 4, 63, 7, 9, 0, 0], fault(FaultKind::Alternative, 7)),
+        (
+            [0, 0, 5, 63, 4_294_967_295, 9, 0, 0],
+            fault(FaultKind::Size, 4_294_967_295),
+        ),
+        ([0, 0, 6, 63, 7, 9, 0, 0], NO_VALUE),
+        ([0, 0, -1, 63, 7, 9, 0, 0], NO_VALUE),
+        ([0, 0, 1, 64, 7, 9, 0, 0], NO_VALUE),
+        ([0, 0, 1, 63, 0, 9, 0, 0], NO_VALUE),
+        ([0, 0, 1, 63, 4_294_967_296, 9, 0, 0], NO_VALUE),
+        ([0, 0, 1, 63, 7, 0, 0, 0], NO_VALUE),
+        ([0, 0, 1, 63, 7, 9, 2, 0], NO_VALUE),
+    ];
+    for (numbers, answer) in cases {
+        assert_eq!(rt; ended(rt.alloc(), &numbers)?, answer);
+    }
+    Ok(())
+}
+
+#[test]
+fn a_duration_is_shown_up_to_its_greatest(rt: HostRuntime) -> Result<(), NoMemory> {
+    let cases = [
+        (0, EventId::Set(0), true),
+        (2_147_483_647, EventId::Set(0), true),
+        (2_147_483_648, EventId::Set(0), false),
+        (-1, EventId::Set(0), false),
+        (0, EventId::Set(1), false),
+        (-1, EventId::Reset(0), true),
+        (-1, EventId::Output(1), true),
+    ];
+    for (duration, event, can) in cases {
+        assert_eq!(rt; shown(rt.alloc(), duration, event)?, can);
+    }
+    Ok(())
+}
+
+/// The active leaf of a region where the global of the process holds this number.
+fn leaf(alloc: Global, number_of_leaf: i64, region: u32) -> Result<Option<u32>, NoMemory> {
+    let model = model_with_timer(alloc)?;
+    let regions = number(alloc, &model)?;
+    let program = program_with_timer(alloc)?;
+    let interface = find_interface(alloc, &program, &model, regions.list.as_slice())?;
+    let globals = cells(alloc, &[number_of_leaf])?;
+    Ok(leaf_at(&interface, globals.as_slice(), region))
+}
+
+#[test]
+fn a_region_has_an_active_leaf_or_none(rt: HostRuntime) -> Result<(), NoMemory> {
+    let cases = [(0, 0, Some(0)), (-1, 0, None), (1, 0, None), (0, 1, None)];
+    for (number_of_leaf, region, active) in cases {
+        assert_eq!(rt; leaf(rt.alloc(), number_of_leaf, region)?, active);
+    }
+    Ok(())
+}
+
+/// A number, then a row of two, then a row of none, then a number.
+fn nested(alloc: Global) -> Result<Tree, NoMemory> {
+    let mut parts = Items::new(alloc);
+    parts.push(Tree::Cell(3))?;
+    parts.push(Tree::Row(cells(alloc, &[4, -5])?))?;
+    parts.push(Tree::Row(Items::new(alloc)))?;
+    parts.push(Tree::Cell(6))?;
+    Ok(Tree::Row(parts))
+}
+
+#[test]
+fn cells_are_counted_through_rows(rt: HostRuntime) -> Result<(), NoMemory> {
+    let tree = nested(rt.alloc())?;
+    let cases = [
+        (0, Some(3)),
+        (1, Some(4)),
+        (2, Some(-5)),
+        (3, Some(6)),
+        (4, None),
+    ];
+    for (offset, number) in cases {
+        assert_eq!(rt; number_in(&tree, offset), number);
+    }
+    Ok(())
 }

@@ -1,0 +1,4 @@
+pub mod Celled
+pub mod Holding
+pub mod Replaced
+pub mod Writing

@@ -1,0 +1,20 @@
+//! Programs of the C subset whose names are resolved, and what one statement of them does.
+#![tactic(auto)]
+
+mod arithmetic;
+mod code;
+mod effect;
+mod linking;
+mod memory;
+mod position;
+mod resolving;
+mod stepping;
+mod value;
+
+pub use linking::{Linked, link};
+pub use memory::Halt;
+pub use position::{Call, Position};
+pub use stepping::step;
+
+#[cfg(test)]
+mod tests;

@@ -1,0 +1,11 @@
+pub mod Loops
+pub mod Known
+pub mod Places
+pub mod Looked
+pub mod Labelled
+pub mod Widths
+pub mod Grown
+pub mod Pairs
+pub mod Shaped
+pub mod Declared
+pub mod Numbers

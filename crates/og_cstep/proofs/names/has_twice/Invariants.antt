@@ -1,7 +1,0 @@
-use Rattle.og_csubset.specs.Loading.{has_twice}
-use Rattle.og_cstep.specs.Names.{names_in}
-use Rattle.og_cstep.proofs.Loops.{Left}
-use Rattle.og_cstep.proofs.names.has_twice.Given as goal
-
-abbrev pub invariant-loop-place : goal.invariant-loop-place
-invariant-loop-place l = Left (λ ys. has_twice (names_in ys)) l.names l.place (has_twice (names_in l.names))
