@@ -1,10 +1,11 @@
 -- Which stimulus each line of a stimuli file is, and the first rule that a line breaks: Q6, a line past 1,000,000; Q5, a line of
 -- more than 65,536 bytes; Q1, a line of no form; Q2, a name that is no incoming signal and no timer of the model. A line that
--- is blank or a comment is skipped, but counts. Every other line is one name, with blanks free around it. Names are folded, as
--- in the model. The form of stimuli files is this project's own.
-use Rattle.std.specs.Prelude.{◌≡◌, ℕ, ◌+◌, Bool, false, List, [], ◌∷◌, if◌then◌else◌, ◌&&◌, ◌||◌, ◌==◌, nat_lt, length, take, drop, Option, Some, None, Result, Ok, Err}
+-- is blank or a comment is skipped, but counts. Every other line is one name, with blanks free around it. TRUE and FALSE in
+-- capitals are no names. Names are folded, as in the model. The form of stimuli files is this project's own.
+use Rattle.std.specs.Prelude.{◌≡◌, ℕ, ◌+◌, Bool, false, List, [], ◌∷◌, if◌then◌else◌, ◌&&◌, ◌||◌, ◌==◌, not, nat_lt, length, take, drop, codes, Option, Some, None, Result, Ok, Err}
 use Rattle.std.specs.Char.{is_ascii_alphabetic, is_ascii_alphanumeric}
 use Rattle.std.specs.List.{list_all, prefix_len}
+use Rattle.std.specs.Str.{bytes_eq}
 use Rattle.og_names.specs.declared.NameId.{NameId}
 use Rattle.og_names.specs.Folding.{folded, place_of}
 use Rattle.og_model.specs.declared.Model.{Model}
@@ -41,9 +42,16 @@ abbrev pub begins_with_letter : List ℕ → Bool
 begins_with_letter [] = false
 begins_with_letter (b ∷ bs) = is_ascii_alphabetic b
 
+-- TRUE or FALSE in capitals, which are no names; in any other case they are names
+abbrev pub is_truth_word : List ℕ → Bool
+is_truth_word word = bytes_eq word (codes "TRUE") || bytes_eq word (codes "FALSE")
+
+-- the word in front, if it is a name and nothing but blanks stands behind it
 abbrev pub name_at_front : List ℕ → Option (List ℕ)
 name_at_front bytes =
-    if begins_with_letter bytes && list_all is_blank (drop (prefix_len is_word bytes) bytes) then Some (take (prefix_len is_word bytes) bytes) else None
+    if begins_with_letter bytes && (not (is_truth_word (take (prefix_len is_word bytes) bytes)) && list_all is_blank (drop (prefix_len is_word bytes) bytes))
+    then Some (take (prefix_len is_word bytes) bytes)
+    else None
 
 -- the name that is all of the line but blanks
 abbrev pub name_in : List ℕ → Option (List ℕ)

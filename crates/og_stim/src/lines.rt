@@ -3,7 +3,7 @@ ghost use Rattle.std.specs.Prelude.{◌≡◌, ◌≤◌, ◌<◌, ◌==◌, ◌
 ghost use Rattle.std.specs.Option.{option_map};
 ghost use Rattle.std.specs.List.{prefix_len, list_all};
 ghost use Rattle.og_stim.specs.Lines.{lines_of, is_blank as blank, is_skipped as skipped, begins_with, without_return as returnless};
-ghost use Rattle.og_stim.specs.Stimuli.{test_of, name_in as name_of, name_at_front as front_name, begins_with_letter as with_letter};
+ghost use Rattle.og_stim.specs.Stimuli.{test_of, name_in as name_of, name_at_front as front_name, is_truth_word as truth_word, begins_with_letter as with_letter};
 
 /// A line without its end, and how many bytes of the text it takes with its end.
 #[derive(Clone, Copy)]
@@ -105,10 +105,17 @@ fn name_at_front(bytes: &[u8]) -> Option<&[u8]>
     ensures { option_map (λ name. name.now) result ≡ front_name bytes.now }
 {
     let (name, behind) = bytes.split_at(run_len(Class::Word, bytes));
-    if begins_with_letter(bytes) && is_all_blank(behind) {
+    if begins_with_letter(bytes) && !is_truth_word(name) && is_all_blank(behind) {
         return Some(name);
     }
     None
+}
+
+/// TRUE and FALSE in capitals, which are no names.
+fn is_truth_word(word: &[u8]) -> bool
+    ensures { result ≡ truth_word word.now }
+{
+    word == b"TRUE".as_slice() || word == b"FALSE".as_slice()
 }
 
 fn begins_with_letter(bytes: &[u8]) -> bool

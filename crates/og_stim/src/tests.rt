@@ -23,9 +23,9 @@ enum Told {
     Full,
 }
 
-/// A model with an incoming signal `go`, an outgoing one `done`, and a timer `slow`.
+/// A model with incoming signals `go` and `true`, an outgoing one `done`, and a timer `slow`.
 fn small_model(alloc: Global) -> Result<Model, NoMemory>
-    ensures signals { IfOk result (λ model. length model.signals ≡ 2) }
+    ensures signals { IfOk result (λ model. length model.signals ≡ 3) }
     ensures timers { IfOk result (λ model. length model.timers ≡ 1) }
     ensures variables { IfOk result (λ model. model.variables ≡ []) }
 {
@@ -33,6 +33,7 @@ fn small_model(alloc: Global) -> Result<Model, NoMemory>
     let go = names.add(b"go")?;
     let done = names.add(b"done")?;
     let slow = names.add(b"slow")?;
+    let truth = names.add(b"true")?;
     let mut signals = Items::new(alloc);
     signals.push(Signal {
         name: go,
@@ -45,6 +46,12 @@ fn small_model(alloc: Global) -> Result<Model, NoMemory>
         sorts: Items::new(alloc),
         incoming: false,
         outgoing: true,
+    })?;
+    signals.push(Signal {
+        name: truth,
+        sorts: Items::new(alloc),
+        incoming: true,
+        outgoing: false,
     })?;
     let mut timers = Items::new(alloc);
     timers.push(slow)?;
@@ -65,7 +72,7 @@ fn small_model(alloc: Global) -> Result<Model, NoMemory>
 }
 
 /// Texts with what the first call tells, and what the second one tells after it.
-const TEXTS: [(&[u8], Told, Told); 22] = [
+const TEXTS: [(&[u8], Told, Told); 28] = [
     (b"", Told::End, Told::End),
     (b"go", Told::Stands(1, StimId::Signal(0)), Told::End),
     (b"go\n", Told::Stands(1, StimId::Signal(0)), Told::End),
@@ -147,6 +154,36 @@ const TEXTS: [(&[u8], Told, Told); 22] = [
         b"g\xc3\xb6",
         Told::Bad(1, StimRule::Q1),
         Told::Bad(1, StimRule::Q1),
+    ),
+    (
+        b"TRUE",
+        Told::Bad(1, StimRule::Q1),
+        Told::Bad(1, StimRule::Q1),
+    ),
+    (
+        b"go\n FALSE \n",
+        Told::Stands(1, StimId::Signal(0)),
+        Told::Bad(2, StimRule::Q1),
+    ),
+    (
+        b"True\n tRUE\n",
+        Told::Stands(1, StimId::Signal(2)),
+        Told::Stands(2, StimId::Signal(2)),
+    ),
+    (
+        b"true\nTRUEX",
+        Told::Stands(1, StimId::Signal(2)),
+        Told::Bad(2, StimRule::Q2),
+    ),
+    (
+        b"False",
+        Told::Bad(1, StimRule::Q2),
+        Told::Bad(1, StimRule::Q2),
+    ),
+    (
+        b"TRU",
+        Told::Bad(1, StimRule::Q2),
+        Told::Bad(1, StimRule::Q2),
     ),
 ];
 

@@ -1,0 +1,50 @@
+//! All stimuli of a file.
+ghost use Rattle.std.specs.Prelude.{◌≡◌, ◌≤◌, ◌∷◌, length, IfOk};
+ghost use Rattle.std.specs.Option.{option_map};
+ghost use Rattle.og_model.specs.declared.StimId.TheVariants.{Start};
+ghost use Rattle.og_trace.specs.Stims.{stims_of};
+ghost use Rattle.og_trace.specs.Listed.{bad_of};
+
+use og_model::{Model, StimId};
+use og_names::NoMemory;
+use og_stim::{Cursor, StimError, StimRule, next_stimulus};
+use std::alloc::Global;
+
+/// A line that breaks a rule, counted from 1.
+#[derive(Clone, Copy, Debug, PartialEq, Eq)]
+pub struct Bad {
+    pub line: u32,
+    pub rule: StimRule,
+}
+
+/// The start and the stimuli of a file up to its first bad line, and that line.
+#[derive(Drop)]
+pub struct Listed {
+    pub ids: Vec<StimId>,
+    pub bad: Option<Bad>,
+}
+
+/// Reads all stimuli of a file, and puts the start before them.
+pub fn stimuli_of(alloc: Global, model: &Model, text: &[u8]) -> Result<Listed, NoMemory>
+    requires few_signals { length model.now.signals ≤ 200 }
+    requires few_timers { length model.now.timers ≤ 200 }
+    ensures ids { IfOk result (λ listed. listed.ids.items ≡ Start ∷ (stims_of model.now text.now).list) }
+    ensures bad { IfOk result (λ listed. option_map bad_of listed.bad ≡ (stims_of model.now text.now).bad) }
+{
+    let mut ids = Vec::new(alloc);
+    ids.push(StimId::Start)?;
+    let mut cursor = Cursor { offset: 0, line: 0 };
+    'lines: loop {
+        match next_stimulus(alloc, model, text, &mut cursor) {
+            Ok(None) => return Ok(Listed { ids, bad: None }),
+            Ok(Some(stimulus)) => ids.push(stimulus.id)?,
+            Err(StimError::Bad { line, rule }) => {
+                return Ok(Listed {
+                    ids,
+                    bad: Some(Bad { line, rule }),
+                });
+            }
+            Err(StimError::NoMemory) => return Err(NoMemory),
+        }
+    }
+}

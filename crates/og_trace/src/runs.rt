@@ -1,0 +1,118 @@
+//! Runs over stimuli, one after the other.
+ghost use Rattle.std.specs.Prelude.{◌≡◌, ◌++◌, None, IfOk, OnOk, IsTrue, unwrap_or};
+ghost use Rattle.og_csubset.specs.Run.{c_machine};
+ghost use Rattle.og_cstep.specs.Answered.{answer_at_end};
+ghost use Rattle.og_cstep.specs.Machines.{run_of, is_stimulus_of};
+ghost use Rattle.og_model.specs.Forms.{UsesBasicStatesOnly};
+ghost use Rattle.og_model.specs.Regions.{regions as regions_of};
+ghost use Rattle.og_stim.specs.Trace.{stimulus_line};
+ghost use Rattle.og_trace.specs.Entries.{AreStimuli, IsReady, IsReadyAt, end_at, entry_of, lines_for, outcome_for, outcome_told, ran_for};
+ghost use Rattle.og_trace.specs.Traces.{shown_lines};
+ghost use Rattle.og_trace.specs.declared.Outcome.{Outcome};
+
+use crate::Outcome;
+use crate::ending::show_ending;
+use crate::events::show_events;
+use og_cstep::{Advance, Machine};
+use og_model::{Model, StimId};
+use og_names::{NoMemory, Word};
+use og_regions::Regions;
+use og_stim::{Stimulus, show_stimulus};
+use sqlite_items::Items;
+use std::alloc::Global;
+
+/// The model that a machine runs over, with its regions, and the words of the files that its places count.
+#[derive(Drop)]
+pub struct Scene<'a> {
+    pub model: &'a Model,
+    pub regions: &'a Regions,
+    pub files: &'a [Word],
+}
+
+/// Runs a machine over stimuli, with at most so many statements for each, and appends what it shows. The outcome is that of
+/// the first stimulus that ends the run, none where the next one can come.
+pub fn show_stimuli(
+    alloc: Global,
+    machine: &mut Machine,
+    scene: &Scene,
+    stimuli: &[StimId],
+    steps: u32,
+    out: &mut Vec<u8>,
+) -> Result<Option<Outcome>, NoMemory>
+    requires ready { IsReady (run_of machine.old).program scene.now.model.now (run_of machine.old).cells (run_of machine.old) }
+    requires regions { scene.now.regions.now.list ≡ regions_of scene.now.model.now }
+    requires basic { UsesBasicStatesOnly scene.now.model.now }
+    requires stimuli { AreStimuli scene.now.model.now stimuli.now }
+    ensures text { OnOk result (out.new.items ≡ out.old.items
+        ++ lines_for (run_of machine.old).program scene.now.model.now scene.now.files.now steps stimuli.now (run_of machine.old).cells) }
+    ensures outcome { IfOk result (λ ended. (behind : Outcome)
+        → unwrap_or ended behind ≡ outcome_for (run_of machine.old).program scene.now.model.now steps stimuli.now (run_of machine.old).cells behind) }
+{
+    for stimulus in stimuli {
+        let ended = show_one(alloc, machine, scene, *stimulus, steps, out)?;
+        if let Some(outcome) = ended {
+            return Ok(Some(outcome));
+        }
+    }
+    Ok(None)
+}
+
+/// Runs a machine over one stimulus, and appends its line, those of its events and those of its end.
+fn show_one(
+    alloc: Global,
+    machine: &mut Machine,
+    scene: &Scene,
+    stimulus: StimId,
+    steps: u32,
+    out: &mut Vec<u8>,
+) -> Result<Option<Outcome>, NoMemory>
+    requires ready { IsReady (run_of machine.old).program scene.now.model.now (run_of machine.old).cells (run_of machine.old) }
+    requires regions { scene.now.regions.now.list ≡ regions_of scene.now.model.now }
+    requires basic { UsesBasicStatesOnly scene.now.model.now }
+    requires stimulus { IsTrue (is_stimulus_of scene.now.model.now stimulus) }
+    ensures text { OnOk result (out.new.items ≡ out.old.items ++ (stimulus_line scene.now.model.now stimulus
+        ++ shown_lines scene.now.model.now scene.now.files.now (entry_of (c_machine (run_of machine.old).program scene.now.model.now).ending
+        (ran_for (run_of machine.old).program scene.now.model.now steps stimulus (run_of machine.old).cells)))) }
+    ensures outcome { IfOk result (λ ended. ended ≡ outcome_told (answer_at_end (end_at (c_machine (run_of machine.old).program scene.now.model.now).ending
+        (ran_for (run_of machine.old).program scene.now.model.now steps stimulus (run_of machine.old).cells).config))) }
+    ensures ready { IfOk result (λ ended. ended ≡ None → IsReadyAt (run_of machine.old).program scene.now.model.now
+        (ran_for (run_of machine.old).program scene.now.model.now steps stimulus (run_of machine.old).cells).config
+        (run_of machine.new)) }
+{
+    show_name(alloc, scene.model, stimulus, out)?;
+    machine.begin(stimulus)?;
+    let answer = show_events(alloc, machine, scene.model, steps, out)?;
+    show_ending(
+        alloc,
+        machine,
+        scene.model,
+        scene.regions,
+        scene.files,
+        answer,
+        out,
+    )?;
+    Ok(outcome_of_answer(answer))
+}
+
+/// Appends the line of a stimulus. In these models it has no values.
+fn show_name(alloc: Global, model: &Model, id: StimId, out: &mut Vec<u8>) -> Result<(), NoMemory>
+    ensures { OnOk result (out.new.items ≡ out.old.items ++ stimulus_line model.now id) }
+{
+    let stimulus = Stimulus {
+        id,
+        values: Items::new(alloc),
+    };
+    show_stimulus(model, &stimulus, out)
+}
+
+/// How a run over a file has ended with this answer, none where the next stimulus can come.
+fn outcome_of_answer(answer: Advance) -> Option<Outcome>
+    ensures { result ≡ outcome_told answer }
+{
+    match answer {
+        Advance::Rest | Advance::Stopped => None,
+        Advance::Moved | Advance::Event(_) => Some(Outcome::Past),
+        Advance::Fault(..) => Some(Outcome::Faulted),
+        Advance::Stuck(_) => Some(Outcome::Stuck),
+    }
+}
