@@ -1,21 +1,29 @@
 -- What the parts of the top call give, put together.
-use Rattle.std.proofs.Common.{◌≡◌, ℕ, List, ◌∷◌, Option, sym, ◌∙◌, subst, inl, inr, refl}
+use Rattle.std.proofs.Common.{◌≡◌, ℕ, List, ◌∷◌, Option, Result, Ok, Err, sym, ◌∙◌, subst, inl, inr, refl}
+use Rattle.std.specs.Prelude.{IfOk}
+use Rattle.og_base.specs.Store.{Files}
+use Rattle.og_model.specs.declared.Model.{Model}
+use Rattle.og_model.specs.Forms.{UsesBasicStatesOnly}
+use Rattle.og_trace.specs.declared.Outcome.{Outcome}
+use Rattle.og_trace.specs.declared.Outcome.TheVariants as outcome
+use Rattle.og_trace.specs.Traces.{run_outcome}
+use Rattle.og_tool.specs.declared.status.Status.{Status}
+use Rattle.og_tool.specs.declared.status.Status.TheVariants.{Done, Refused, BadFile, Past, Faulted, Stuck}
+use Rattle.og_tool.specs.Answers.{IsOutputFor, IsSimulation, status_of}
+use Rattle.og_tool.specs.Words.{Command, Compile, Run, Simulate, AsksFor, AskForRun}
+use Rattle.og_tool.proofs.GivenStimuli.{agreeing_is_never_stuck}
+use Rattle.og_front.proofs.Resolving.{model_is_basic}
 use Rattle.og_base.specs.declared.ModelError.{ModelError}
 use Rattle.og_base.specs.declared.ModelError.TheVariants.{Broken}
 use Rattle.og_base.specs.declared.Rule.TheVariants.{F1}
 use Rattle.og_base.specs.declared.Violation.{Violation}
-use Rattle.og_base.specs.Store.{Files}
 use Rattle.og_lexer.specs.declared.Spanned.{Spanned}
 use Rattle.og_lexer.specs.declared.Comment.{Comment}
 use Rattle.og_lexer.specs.Texts.{Lexes}
-use Rattle.og_tool.specs.declared.status.Status.{Status}
-use Rattle.og_tool.specs.declared.status.Status.TheVariants.{Done, Refused, Usage, ReadFault, WriteFault, NoMemory, TooLarge}
-use Rattle.og_tool.specs.declared.syntax.SystemText.{SystemText}
-use Rattle.og_tool.specs.Answering.{IsFirst, LineAnswer, BytesAnswer, FileAnswer}
-use Rattle.og_tool.specs.Answers.{HasRead, IsReportFor, WroteC, WroteReport, WroteSome}
-use Rattle.og_tool.specs.Files.{FirstViolation, BreaksGrammar}
-use Rattle.og_tool.specs.Grammar.{Spells}
-use Rattle.og_tool.specs.Words.{AsksForC}
+use Rattle.og_front.specs.declared.syntax.SystemText.{SystemText}
+use Rattle.og_tool.specs.Answering.{IsFirst, IsBuilt, IsBuiltFrom, CommandAnswer, WroteAll}
+use Rattle.og_front.specs.Files.{IsTextOf, FirstViolation, BreaksGrammar}
+use Rattle.og_front.specs.Grammar.{Spells}
 
 -- the error is the first token's, which the tokens have
 abbrev pub NamesFirstToken : List Spanned → ModelError → Type 0
@@ -40,65 +48,37 @@ no_tree bytes tokens shown comments error lexes same none named =
     let first : FirstViolation bytes v = inr (inl breaks) in
     subst R (sym named.3) first
 
--- writing the line of a first violation answers for the bytes
-pub line_answers : (status : Status) (file bytes line : List ℕ) (old new : Option (List ℕ)) (before after : ℕ)
-    → IsReportFor file bytes line → LineAnswer status line old new before after → BytesAnswer status file bytes old new before after
-line_answers Refused file bytes line old new before after report wrote = (line, report, wrote)
-line_answers WriteFault file bytes line old new before after report wrote = (wrote.0, (line, inr report, wrote.1))
-line_answers NoMemory file bytes line old new before after report wrote = wrote
-line_answers Done file bytes line old new before after report wrote = absurd wrote
-line_answers Usage file bytes line old new before after report wrote = absurd wrote
-line_answers ReadFault file bytes line old new before after report wrote = absurd wrote
-line_answers TooLarge file bytes line old new before after report wrote = absurd wrote
+-- the model of a tree whose text the bytes are is the model of the bytes
+pub built_if : (result : Result Model ModelError) (bytes : List ℕ) (system : SystemText) → IsTextOf system bytes → IfOk result (IsBuiltFrom system) → IfOk result (IsBuilt bytes)
+built_if (Ok model) bytes system text built = record { system = system; accepts = record { text = text; keeps = built.keeps }; is = built.is; can = built.can }
+built_if (Err error) bytes system text built = _
 
--- what read_all gave, and then what was answered for the bytes
-pub bytes_answer : (status : Status) (told : Option Files) (file bytes : List ℕ) (was is : ℕ) (old new : Option (List ℕ)) (before after : ℕ)
-    → HasRead told file bytes → BytesAnswer status file bytes old new before after → FileAnswer status told file was is old new before after
-bytes_answer Done told file bytes was is old new before after read answer = (bytes, read, answer)
-bytes_answer Refused told file bytes was is old new before after read answer = (bytes, read, answer)
-bytes_answer WriteFault told file bytes was is old new before after read answer = (bytes, read, answer)
-bytes_answer NoMemory told file bytes was is old new before after read answer = answer
-bytes_answer Usage told file bytes was is old new before after read answer = absurd answer
-bytes_answer ReadFault told file bytes was is old new before after read answer = absurd answer
-bytes_answer TooLarge told file bytes was is old new before after read answer = absurd answer
+-- ---- what a command calls for
 
--- ---- each status
+-- a simulation is never stuck
+not_stuck : (told : Option Files) (file stimuli : List ℕ) (steps : ℕ) (text : List ℕ) → IsSimulation told file stimuli steps Stuck text → ⊥
+not_stuck told file stimuli steps text is =
+    let basic : UsesBasicStatesOnly is.model = subst UsesBasicStatesOnly (sym is.has_model.is) (model_is_basic is.has_model.system) in
+    agreeing_is_never_stuck is.model is.program is.agrees basic is.traces.bytes steps (stuck_only (run_outcome is.model is.program is.traces.bytes steps) is.traces.ends)
+  where
+    stuck_only : (o : Outcome) → Stuck ≡ status_of o → o ≡ outcome.Stuck
+    stuck_only outcome.Done e = absurd (let h : Stuck ≡ Done = e in cc)
+    stuck_only outcome.BadFile e = absurd (let h : Stuck ≡ BadFile = e in cc)
+    stuck_only outcome.Past e = absurd (let h : Stuck ≡ Past = e in cc)
+    stuck_only outcome.Faulted e = absurd (let h : Stuck ≡ Faulted = e in cc)
+    stuck_only outcome.Stuck e = refl
 
-pub usage_not : (told : Option Files) (file : List ℕ) (was is : ℕ) (old new : Option (List ℕ)) (before after : ℕ) → FileAnswer Usage told file was is old new before after → ⊥
-usage_not told file was is old new before after answer = answer
+-- what was written for a command is stuck only where the command is a run
+asks_for_run : (words : List (List ℕ)) (told : Option Files) (command : Command) (text : List ℕ) → AsksFor words command → IsOutputFor told command Stuck text → AskForRun words
+asks_for_run words told (Compile file) text asks (inl report) = absurd (let h : Stuck ≡ Refused = report.refused in cc)
+asks_for_run words told (Compile file) text asks (inr code) = absurd (let h : Stuck ≡ Done = code.done in cc)
+asks_for_run words told (Run file program stimuli steps) text asks output = (file, program, stimuli, steps, asks)
+asks_for_run words told (Simulate file stimuli steps) text asks (inl report) = absurd (let h : Stuck ≡ Refused = report.refused in cc)
+asks_for_run words told (Simulate file stimuli steps) text asks (inr simulation) = absurd (not_stuck told file stimuli steps text simulation)
 
-pub done_so : (words : List (List ℕ)) (told : Option Files) (file : List ℕ) (was is : ℕ) (old new : Option (List ℕ)) (before after : ℕ)
-    → AsksForC words file → FileAnswer Done told file was is old new before after → WroteC words told old new
-done_so words told file was is old new before after asks answer = record {
-  file = file;
-  bytes = answer.0;
-  text = answer.2.0;
-  asks = asks;
-  read = answer.1;
-  is_text = answer.2.1;
-  wrote = answer.2.2;
-}
-
-pub refused_so : (words : List (List ℕ)) (told : Option Files) (file : List ℕ) (was is : ℕ) (old new : Option (List ℕ)) (before after : ℕ)
-    → AsksForC words file → FileAnswer Refused told file was is old new before after → WroteReport words told old new
-refused_so words told file was is old new before after asks answer = record {
-  file = file;
-  bytes = answer.0;
-  line = answer.2.0;
-  asks = asks;
-  read = answer.1;
-  is_report = answer.2.1;
-  wrote = answer.2.2;
-}
-
-pub some_so : (words : List (List ℕ)) (told : Option Files) (file : List ℕ) (was is : ℕ) (old new : Option (List ℕ)) (before after : ℕ)
-    → AsksForC words file → FileAnswer WriteFault told file was is old new before after → WroteSome words told old new
-some_so words told file was is old new before after asks answer = record {
-  file = file;
-  bytes = answer.0;
-  text = answer.2.1.0;
-  asks = asks;
-  read = answer.1;
-  is_output = answer.2.1.1;
-  wrote = answer.2.1.2;
-}
+pub stuck_runs : (words : List (List ℕ)) (told : Option Files) (command : Command) (status : Status) (was is : List ℕ → ℕ) (old new : Option (List ℕ)) (before after : ℕ)
+    → AsksFor words command → CommandAnswer status told command was is old new before after → status ≡ Stuck → AskForRun words
+stuck_runs words told command status was is old new before after asks answer same =
+    let P : Status → Type 0 = λ s. CommandAnswer s told command was is old new before after in
+    let wrote : WroteAll told command Stuck old new = subst P same answer in
+    asks_for_run words told command wrote.0 asks wrote.1

@@ -1,16 +1,23 @@
--- What the parts of the top call answer, by status.
-use Rattle.std.specs.Prelude.{◌≡◌, ℕ, List, Option}
+-- What the parts of the top call answer.
+use Rattle.std.specs.Prelude.{◌≡◌, ℕ, List, Option, Some, None}
 use Rattle.og_base.specs.declared.ModelError.{ModelError}
 use Rattle.og_base.specs.declared.ModelError.TheVariants as error
-use Rattle.og_base.specs.Store.{Files, HoldsMore, Rose}
+use Rattle.og_base.specs.Store.{Files, Rose}
 use Rattle.og_base.specs.Sink.{grown, WroteFront}
+use Rattle.og_model.specs.declared.Model.{Model}
+use Rattle.og_tool.specs.declared.reading.ModelFile.{ModelFile}
+use Rattle.og_tool.specs.declared.reading.ModelFile.TheVariants as file
 use Rattle.og_tool.specs.declared.status.Status.{Status}
-use Rattle.og_tool.specs.declared.status.Status.TheVariants.{Done, Refused, Usage, ReadFault, WriteFault, NoMemory, TooLarge}
-use Rattle.og_tool.specs.declared.syntax.SystemText.{SystemText}
-use Rattle.og_tool.specs.Answers.{limit, HasRead, IsTextFor, IsReportFor, IsOutputFor}
-use Rattle.og_tool.specs.Files.{FirstViolation}
-use Rattle.og_tool.specs.Rules.{first_of_rules}
-use Rattle.std.specs.Prelude.{Some}
+use Rattle.og_tool.specs.declared.status.Status.TheVariants.{Done, Refused, Usage, ReadFault, WriteFault, NoMemory, BadFile, Past, Faulted, Stuck, TooLarge}
+use Rattle.og_front.specs.declared.syntax.SystemText.{SystemText}
+use Rattle.og_tool.specs.Answers.{HasModel, IsReport, IsOutputFor, FailedFor, IsTooLargeFor}
+use Rattle.og_front.specs.Files.{Accepts, FirstViolation}
+use Rattle.og_front.specs.ModelOf.{model_of_tree}
+use Rattle.og_tool.specs.Ready.{CanRun}
+use Rattle.og_front.specs.Rules.{first_of_rules}
+use Rattle.og_tool.specs.Words.{Command}
+
+-- ---- reading a model
 
 -- the error is the first violation of the bytes, or want of memory
 abbrev pub IsFirst : List ℕ → ModelError → Type 0
@@ -22,40 +29,52 @@ abbrev pub IsFirstOfRules : SystemText → ModelError → Type 0
 IsFirstOfRules system (error.Broken v) = first_of_rules system ≡ Some v
 IsFirstOfRules system error.NoMemory = Unit {0}
 
--- writing a line on a refusal
-abbrev pub LineAnswer : Status → List ℕ → Option (List ℕ) → Option (List ℕ) → ℕ → ℕ → Type 0
-LineAnswer Refused line old new before after = new ≡ grown line old
-LineAnswer WriteFault line old new before after = Rose before after × WroteFront line old new
-LineAnswer NoMemory line old new before after = new ≡ old
-LineAnswer Done line old new before after = ⊥
-LineAnswer Usage line old new before after = ⊥
-LineAnswer ReadFault line old new before after = ⊥
-LineAnswer TooLarge line old new before after = ⊥
+-- the tree keeps the rules, and this is its model
+pub record IsBuiltFrom (system : SystemText) (model : Model) : Type 0 where
+  pub keeps : first_of_rules system ≡ None
+  pub is : model ≡ model_of_tree system
+  pub can : CanRun model
 
--- a front of what the bytes call for was written
-abbrev pub WroteFrontFor : List ℕ → List ℕ → Option (List ℕ) → Option (List ℕ) → Type 0
-WroteFrontFor file bytes old new = (text : List ℕ) × IsOutputFor file bytes text × WroteFront text old new
+-- the bytes are accepted, and this is their model
+pub record IsBuilt (bytes : List ℕ) (model : Model) : Type 0 where
+  pub system : SystemText
+  pub accepts : Accepts bytes system
+  pub is : model ≡ model_of_tree system
+  pub can : CanRun model
 
--- answering a file of these bytes
-abbrev pub BytesAnswer : Status → List ℕ → List ℕ → Option (List ℕ) → Option (List ℕ) → ℕ → ℕ → Type 0
-BytesAnswer Done file bytes old new before after = (text : List ℕ) × IsTextFor bytes text × (new ≡ grown text old)
-BytesAnswer Refused file bytes old new before after = (line : List ℕ) × IsReportFor file bytes line × (new ≡ grown line old)
-BytesAnswer WriteFault file bytes old new before after = Rose before after × WroteFrontFor file bytes old new
-BytesAnswer NoMemory file bytes old new before after = new ≡ old
-BytesAnswer Usage file bytes old new before after = ⊥
-BytesAnswer ReadFault file bytes old new before after = ⊥
-BytesAnswer TooLarge file bytes old new before after = ⊥
+-- the file was read, and this is its model
+pub record IsReady (told : Option Files) (name : List ℕ) (model : Model) : Type 0 where
+  pub has_model : HasModel told name model
+  pub can : CanRun model
 
--- what was read of a file, and what it called for
-abbrev pub AnswersBytes : Status → Option Files → List ℕ → Option (List ℕ) → Option (List ℕ) → ℕ → ℕ → Type 0
-AnswersBytes status told file old new before after = (bytes : List ℕ) × HasRead told file bytes × BytesAnswer status file bytes old new before after
+abbrev pub TellsModel : Option Files → List ℕ → ModelFile → Type 0
+TellsModel told name (file.Accepted model) = IsReady told name model
+TellsModel told name (file.Refused line) = IsReport told name Refused line.items
 
--- carrying out `cc` for a file, whose count of failures was and is
-abbrev pub FileAnswer : Status → Option Files → List ℕ → ℕ → ℕ → Option (List ℕ) → Option (List ℕ) → ℕ → ℕ → Type 0
-FileAnswer ReadFault told file was is old new before after = Rose was is × (new ≡ old)
-FileAnswer TooLarge told file was is old new before after = HoldsMore told file limit × (new ≡ old)
-FileAnswer NoMemory told file was is old new before after = new ≡ old
-FileAnswer Done told file was is old new before after = AnswersBytes Done told file old new before after
-FileAnswer Refused told file was is old new before after = AnswersBytes Refused told file old new before after
-FileAnswer WriteFault told file was is old new before after = AnswersBytes WriteFault told file old new before after
-FileAnswer Usage told file was is old new before after = ⊥
+abbrev pub IsRefusal : List ℕ → ModelFile → Type 0
+IsRefusal line (file.Accepted model) = ⊥
+IsRefusal line (file.Refused text) = text.items ≡ line
+
+-- ---- carrying out a command
+
+-- what the command calls for with this status was written whole
+abbrev pub WroteAll : Option Files → Command → Status → Option (List ℕ) → Option (List ℕ) → Type 0
+WroteAll told command status old new = (text : List ℕ) × IsOutputFor told command status text × (new ≡ grown text old)
+
+-- a front of what it calls for was written
+abbrev pub WroteFrontFor : Option Files → Command → Option (List ℕ) → Option (List ℕ) → Type 0
+WroteFrontFor told command old new = (status : Status) × (text : List ℕ) × IsOutputFor told command status text × WroteFront text old new
+
+-- the failures of the store and of the sink were and are so many
+abbrev pub CommandAnswer : Status → Option Files → Command → (List ℕ → ℕ) → (List ℕ → ℕ) → Option (List ℕ) → Option (List ℕ) → ℕ → ℕ → Type 0
+CommandAnswer Done told command was is old new before after = WroteAll told command Done old new
+CommandAnswer Refused told command was is old new before after = WroteAll told command Refused old new
+CommandAnswer BadFile told command was is old new before after = WroteAll told command BadFile old new
+CommandAnswer Past told command was is old new before after = WroteAll told command Past old new
+CommandAnswer Faulted told command was is old new before after = WroteAll told command Faulted old new
+CommandAnswer Stuck told command was is old new before after = WroteAll told command Stuck old new
+CommandAnswer Usage told command was is old new before after = ⊥
+CommandAnswer ReadFault told command was is old new before after = FailedFor told command was is × (new ≡ old)
+CommandAnswer TooLarge told command was is old new before after = IsTooLargeFor told command × (new ≡ old)
+CommandAnswer WriteFault told command was is old new before after = Rose before after × WroteFrontFor told command old new
+CommandAnswer NoMemory told command was is old new before after = new ≡ old

@@ -1,22 +1,26 @@
 //! The commands of `og`.
 #![tactic(auto)]
 
-mod build;
+mod command;
 mod compile;
-mod laws;
-mod parse;
+mod output_laws;
+mod program;
+mod reading;
 mod report;
-mod rules;
 mod run;
+#[cfg(test)]
+mod run_tests;
+mod running;
 mod status;
-mod syntax;
 #[cfg(test)]
 mod tests;
-mod words;
+#[cfg(test)]
+mod whole_tests;
 
-pub use laws::{
+pub use og_front::{
     first_is_least, models_are_well_formed, models_of_trees, names_are_short, one_answer,
     trees_are_written,
 };
+pub use output_laws::{agreeing_is_never_stuck, one_command, one_output};
 pub use run::run_tool;
 pub use status::Status;

@@ -1,9 +1,12 @@
-//! The line that names a violation.
-ghost use Rattle.std.specs.Prelude.{◌≡◌, ◌++◌, IfOk, OnOk, decimal};
-ghost use Rattle.og_tool.specs.Files.{report_line as line_of, rule_text as text_of};
+//! The lines that name a violation in a model file, and what is wrong with a program's file.
+ghost use Rattle.std.specs.Prelude.{◌≡◌, ◌++◌, ◌∷◌, [], IfOk, OnOk, codes, decimal};
+ghost use Rattle.og_front.specs.Files.{report_line as line_of, rule_text as text_of};
+ghost use Rattle.og_tool.specs.Programs.{bad_program_line as bad_line_of, load_rule_text as load_text_of, placed_line as placed_line_of};
 
+use crate::program::BadProgram;
 use itoa::Buffer;
-use og_base::{Rule, Violation};
+use og_base::{Place, Rule, Violation};
+use og_cstep::LoadRule;
 use og_names::NoMemory;
 use std::alloc::Global;
 
@@ -21,6 +24,58 @@ pub fn report_line(alloc: Global, file: &[u8], violation: Violation) -> Result<V
     put_number(&mut line, violation.place.column)?;
     line.extend_from_slice(b"\n")?;
     Ok(line)
+}
+
+/// `bad RULE FILE:LINE:COLUMN` for a text that is none of a program or nests too deep, else `bad RULE FILE`, and a line end.
+pub fn bad_program_line(alloc: Global, file: &[u8], bad: BadProgram) -> Result<Vec<u8>, NoMemory>
+    ensures { IfOk result (λ line. line.items ≡ bad_line_of file.now bad) }
+{
+    match bad {
+        BadProgram::NoForm(place) => placed_line(alloc, b"K1", file, place),
+        BadProgram::TooDeep(place) => placed_line(alloc, b"K2", file, place),
+        BadProgram::Breaks(rule) => named_line(alloc, load_rule_text(rule), file),
+    }
+}
+
+fn placed_line(alloc: Global, rule: &[u8], file: &[u8], place: Place) -> Result<Vec<u8>, NoMemory>
+    ensures { IfOk result (λ line. line.items ≡ placed_line_of rule.now file.now place) }
+{
+    let mut line = Vec::from_slice(alloc, b"bad ")?;
+    line.extend_from_slice(rule)?;
+    line.extend_from_slice(b" ")?;
+    line.extend_from_slice(file)?;
+    line.extend_from_slice(b":")?;
+    put_number(&mut line, place.line)?;
+    line.extend_from_slice(b":")?;
+    put_number(&mut line, place.column)?;
+    line.extend_from_slice(b"\n")?;
+    Ok(line)
+}
+
+fn named_line(alloc: Global, rule: &[u8], file: &[u8]) -> Result<Vec<u8>, NoMemory>
+    ensures { IfOk result (λ line. line.items ≡ codes "bad " ++ rule.now ++ codes " " ++ file.now ++ 10 ∷ []) }
+{
+    let mut line = Vec::from_slice(alloc, b"bad ")?;
+    line.extend_from_slice(rule)?;
+    line.extend_from_slice(b" ")?;
+    line.extend_from_slice(file)?;
+    line.extend_from_slice(b"\n")?;
+    Ok(line)
+}
+
+/// The name of a load rule, as users see it.
+fn load_rule_text(rule: LoadRule) -> &'static [u8]
+    ensures { result.now ≡ load_text_of rule }
+{
+    match rule {
+        LoadRule::K3 => b"K3",
+        LoadRule::K4 => b"K4",
+        LoadRule::K5 => b"K5",
+        LoadRule::K6 => b"K6",
+        LoadRule::K7 => b"K7",
+        LoadRule::K8 => b"K8",
+        LoadRule::K9 => b"K9",
+    }
 }
 
 fn put_number(line: &mut Vec<u8>, number: u32) -> Result<(), NoMemory>

@@ -16,7 +16,16 @@ pub enum Status {
     WriteFault,
     /// Memory could not be had.
     NoMemory,
-    /// The model file has more than 67,108,864 bytes.
+    /// The program's file holds no program that can be run over the model, or a bad line of the stimuli was reached. The line
+    /// that names the rule was written last.
+    BadFile,
+    /// A run had not come to its end after as many statements as a stimulus may take.
+    Past,
+    /// A run ended with a fault.
+    Faulted,
+    /// A run ended where the program could not go on.
+    Stuck,
+    /// A file has more than 67,108,864 bytes.
     TooLarge,
 }
 
@@ -32,6 +41,10 @@ impl Status {
             Status::ReadFault => 3,
             Status::WriteFault => 4,
             Status::NoMemory => 5,
+            Status::BadFile => 6,
+            Status::Past => 7,
+            Status::Faulted => 8,
+            Status::Stuck => 9,
             Status::TooLarge => 11,
         }
     }

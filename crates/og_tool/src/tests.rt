@@ -24,7 +24,7 @@ fn compiled(
     Ok((status, sink.bytes))
 }
 
-const TWO_STATES: &[u8] = b"SYSTEM s; SIGNAL go, done; BLOCK b; PROCESS p;
+pub const TWO_STATES: &[u8] = b"SYSTEM s; SIGNAL go, done; BLOCK b; PROCESS p;
 START; NEXTSTATE idle;
 STATE idle; INPUT go; OUTPUT done; NEXTSTATE busy; ENDSTATE;
 STATE busy; ENDSTATE;
@@ -127,7 +127,7 @@ fn line_of(text: &[u8], number: usize) -> &[u8] {
 }
 
 /// The words of a line, with a blank between two of them.
-fn words_of(alloc: Global, line: &str) -> Result<Vec<String>, AllocError> {
+pub fn words_of(alloc: Global, line: &str) -> Result<Vec<String>, AllocError> {
     let mut words = Vec::new(alloc);
     for word in line.split(' ') {
         words.push(String::from_str(alloc, word)?)?;
@@ -145,7 +145,6 @@ fn other_words_are_no_command(rt: HostRuntime) -> Result<(), Fail> {
         "cc m.PR",
         "cc m.pr ",
         "cc m.pr m.pr",
-        "run m.pr",
     ] {
         let alloc = rt.alloc();
         let words = words_of(alloc, line)?;

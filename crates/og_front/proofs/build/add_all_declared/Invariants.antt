@@ -1,0 +1,10 @@
+use Rattle.std.proofs.Common.{map}
+use Rattle.std.specs.List.{flat_map}
+use Rattle.og_front.specs.Names.{declared_by}
+use Rattle.og_front.specs.Rules.{key, with_names}
+use Rattle.og_front.proofs.Loops.{Left}
+use Rattle.og_front.proofs.build.add_all_declared.Given as goal
+
+abbrev pub invariant-loop-signal : goal.invariant-loop-signal
+invariant-loop-signal l =
+    Left (λ ys. with_names l.names (map key (flat_map declared_by ys))) l.signals l.signal-index (with_names l.initial.names (map key (flat_map declared_by l.signals)))

@@ -1,0 +1,10 @@
+pub mod Grammar
+pub mod Rules
+pub mod Files
+pub mod Reading
+pub mod Names
+pub mod Tables
+pub mod ModelOf
+pub mod Building
+pub mod Examples
+pub mod Written

@@ -1,0 +1,174 @@
+-- Over a store that tells its files a command calls for one thing: what a run writes and its status are one, and there is neither
+-- where a file has too many bytes.
+use Rattle.std.proofs.Common.{◌≡◌, ◌∙◌, ℕ, List, length, Some, None, sym, ap, subst, inl, inr, arith}
+use Rattle.og_base.specs.Store.{Files, HoldsMore}
+use Rattle.og_model.specs.declared.Model.{Model}
+use Rattle.og_csubset.specs.declared.CProgram.{CProgram}
+use Rattle.og_csubset.specs.Loading.{first_load_rule}
+use Rattle.og_csubset.specs.Nesting.{PassesNesting}
+use Rattle.og_csubset.specs.Refusals.{IsBad, IsTooDeep, place_behind}
+use Rattle.og_csubset.specs.Spelling.{CSpells}
+use Rattle.og_csubset.specs.Wrong.{GoesWrong}
+use Rattle.og_trace.specs.Traces.{run_text, run_outcome}
+use Rattle.og_tool.specs.declared.program.BadProgram.{BadProgram}
+use Rattle.og_tool.specs.declared.program.BadProgram.TheVariants.{NoForm, TooDeep, Breaks}
+use Rattle.og_tool.specs.declared.status.Status.{Status}
+use Rattle.og_tool.specs.declared.status.Status.TheVariants.{Refused}
+use Rattle.og_tool.specs.Answers.{limit, HasRead, HasModel, HasProgram, IsReport, IsBadLine, IsTrace, IsOutputFor, IsTooLargeFor, status_of}
+use Rattle.og_front.specs.Files.{IsTextOf, FirstViolation, report_line}
+use Rattle.og_front.specs.ModelOf.{model_of_tree}
+use Rattle.og_tool.specs.Programs.{IsTextOfProgram, IsBadFor, bad_program_line}
+use Rattle.og_tool.specs.Words.{Command, Compile, Run, Simulate}
+use Rattle.og_front.proofs.OneAnswer.{OneText, OneLexical, Apart, same_system, never_both, one_first}
+use Rattle.og_tool.proofs.ProgramParts.{OneProgram, NotDeep, NotBad}
+
+-- what the laws of texts say
+pub record Laws : Type 0 where
+  pub texts : OneText
+  pub lexicals : OneLexical
+  pub apart : Apart
+  pub programs : OneProgram
+  pub not_deep : NotDeep
+  pub not_bad : NotBad
+  pub not_both : (limit : ℕ) (text before other : List ℕ) → IsTooDeep limit text before → IsBad limit text other → ⊥
+  pub one_deep : (limit : ℕ) (text before other : List ℕ) → PassesNesting limit text before → PassesNesting limit text other → before ≡ other
+  pub one_wrong : (text before other : List ℕ) → GoesWrong text before → GoesWrong text other → before ≡ other
+
+same_some : {A : Type 0} (x y : A) → Some x ≡ Some y → x ≡ y
+same_some x y e = cc
+
+-- ---- what was read
+
+same_bytes : (files : Files) (name a b : List ℕ) → HasRead (Some files) name a → HasRead (Some files) name b → a ≡ b
+same_bytes files name a b x y = same_some a b (sym x.holds ∙ y.holds)
+
+never_large : (files : Files) (name a : List ℕ) → HasRead (Some files) name a → HoldsMore (Some files) name limit → ⊥
+never_large files name a x more =
+    let long : length a ≡ length more.0 = ap length (same_some a more.0 (sym x.holds ∙ more.1)) in
+    omega (arith, x.small, more.2, long)
+
+same_model : Laws → (files : Files) (file : List ℕ) (M N : Model) → HasModel (Some files) file M → HasModel (Some files) file N → M ≡ N
+same_model laws files file M N x y =
+    let P : List ℕ → Type 0 = λ bytes. IsTextOf y.system bytes in
+    let text : IsTextOf y.system x.bytes = subst P (same_bytes files file y.bytes x.bytes y.read x.read) y.accepts.text in
+    let same : x.system ≡ y.system = same_system laws.texts x.bytes x.system y.system x.accepts.text text in
+    x.is ∙ ap model_of_tree same ∙ sym y.is
+
+never_reported : Laws → (files : Files) (file line : List ℕ) (M : Model) (status : Status) → HasModel (Some files) file M → IsReport (Some files) file status line → ⊥
+never_reported laws files file line M status x report =
+    let P : List ℕ → Type 0 = λ bytes. FirstViolation bytes report.violation in
+    never_both laws.texts laws.apart x.bytes report.violation (record { system = x.system; accepts = x.accepts })
+    (subst P (same_bytes files file report.bytes x.bytes report.read x.read) report.first)
+
+same_report : Laws → (files : Files) (file line more : List ℕ) (status other : Status) → IsReport (Some files) file status line → IsReport (Some files) file other more → (status ≡ other) × (line ≡ more)
+same_report laws files file line more status other x y =
+    let P : List ℕ → Type 0 = λ bytes. FirstViolation bytes y.violation in
+    let same : x.violation ≡ y.violation = one_first laws.texts laws.lexicals laws.apart x.bytes x.violation y.violation x.first (subst P (same_bytes files file y.bytes x.bytes y.read x.read) y.first) in
+    (x.refused ∙ sym y.refused, x.is ∙ ap (report_line file) same ∙ sym y.is)
+
+-- ---- the file of a program
+
+same_program : Laws → (files : Files) (code : List ℕ) (M : Model) (P Q : CProgram) → HasProgram (Some files) code M P → HasProgram (Some files) code M Q → P ≡ Q
+same_program laws files code M P Q x y =
+    laws.programs P Q x.bytes x.text.spelt (subst (CSpells Q) (same_bytes files code y.bytes x.bytes y.read x.read) y.text.spelt)
+
+never_wrong : Laws → (M : Model) (bytes : List ℕ) (P : CProgram) → IsTextOfProgram bytes P → first_load_rule P M ≡ None → (wrong : BadProgram) → IsBadFor M bytes wrong → ⊥
+never_wrong laws M bytes P text loads (NoForm place) bad = laws.not_bad 256 P bytes bad.0 text.spelt bad.1
+never_wrong laws M bytes P text loads (TooDeep place) bad = laws.not_deep 256 bytes bad.0 text.within bad.1
+never_wrong laws M bytes P text loads (Breaks rule) bad =
+    let same : P ≡ bad.0 = laws.programs P bad.0 bytes text.spelt bad.1.spelt in
+    let e : None ≡ Some rule = sym loads ∙ ap (λ (Q : CProgram). first_load_rule Q M) same ∙ bad.2 in
+    cc
+
+same_wrong : Laws → (M : Model) (bytes : List ℕ) (v w : BadProgram) → IsBadFor M bytes v → IsBadFor M bytes w → v ≡ w
+same_wrong laws M bytes (NoForm p) (NoForm q) a b = ap NoForm (a.2 ∙ ap place_behind (laws.one_wrong bytes a.0 b.0 a.1.wrong b.1.wrong) ∙ sym b.2)
+same_wrong laws M bytes (NoForm p) (TooDeep q) a b = absurd (laws.not_both 256 bytes b.0 a.0 b.1 a.1)
+same_wrong laws M bytes (NoForm p) (Breaks rule) a b = absurd (laws.not_bad 256 b.0 bytes a.0 b.1.spelt a.1)
+same_wrong laws M bytes (TooDeep p) (NoForm q) a b = absurd (laws.not_both 256 bytes a.0 b.0 a.1 b.1)
+same_wrong laws M bytes (TooDeep p) (TooDeep q) a b = ap TooDeep (a.2 ∙ ap place_behind (laws.one_deep 256 bytes a.0 b.0 a.1.passes b.1.passes) ∙ sym b.2)
+same_wrong laws M bytes (TooDeep p) (Breaks rule) a b = absurd (laws.not_deep 256 bytes a.0 b.1.within a.1)
+same_wrong laws M bytes (Breaks rule) (NoForm q) a b = absurd (laws.not_bad 256 a.0 bytes b.0 a.1.spelt b.1)
+same_wrong laws M bytes (Breaks rule) (TooDeep q) a b = absurd (laws.not_deep 256 bytes b.0 a.1.within b.1)
+same_wrong laws M bytes (Breaks rule) (Breaks other) a b =
+    ap Breaks (same_some rule other (sym a.2 ∙ ap (λ (Q : CProgram). first_load_rule Q M) (laws.programs a.0 b.0 bytes a.1.spelt b.1.spelt) ∙ b.2))
+
+same_bad_line : Laws → (files : Files) (file code line more : List ℕ) (status other : Status)
+    → IsBadLine (Some files) file code status line → IsBadLine (Some files) file code other more → (status ≡ other) × (line ≡ more)
+same_bad_line laws files file code line more status other x y =
+    let M : x.model ≡ y.model = same_model laws files file x.model y.model x.has_model y.has_model in
+    let P : Model → Type 0 = λ model. IsBadFor model y.bytes y.wrong in
+    let Q : List ℕ → Type 0 = λ bytes. IsBadFor x.model bytes y.wrong in
+    let bad : IsBadFor x.model x.bytes y.wrong = subst Q (same_bytes files code y.bytes x.bytes y.read x.read) (subst P (sym M) y.bad) in
+    let same : x.wrong ≡ y.wrong = same_wrong laws x.model x.bytes x.wrong y.wrong x.bad bad in
+    (x.bad_file ∙ sym y.bad_file, x.is ∙ ap (bad_program_line code) same ∙ sym y.is)
+
+-- a program that can be run, and a line that says what is wrong with its file
+never_bad_line : Laws → (files : Files) (file code line : List ℕ) (status : Status) (M : Model) (P : CProgram)
+    → IsBadLine (Some files) file code status line → HasModel (Some files) file M → HasProgram (Some files) code M P → ⊥
+never_bad_line laws files file code line status M P x has program =
+    let same : x.model ≡ M = same_model laws files file x.model M x.has_model has in
+    let R : Model → Type 0 = λ model. IsBadFor model x.bytes x.wrong in
+    let Q : List ℕ → Type 0 = λ bytes. IsBadFor M bytes x.wrong in
+    never_wrong laws M program.bytes P program.text program.loads x.wrong
+    (subst Q (same_bytes files code x.bytes program.bytes x.read program.read) (subst R same x.bad))
+
+-- ---- runs
+
+same_trace : (files : Files) (M : Model) (P : CProgram) (file stimuli text more : List ℕ) (steps : ℕ) (status other : Status)
+    → IsTrace (Some files) M P file stimuli steps status text → IsTrace (Some files) M P file stimuli steps other more → (status ≡ other) × (text ≡ more)
+same_trace files M P file stimuli text more steps status other x y =
+    let same : x.bytes ≡ y.bytes = same_bytes files stimuli x.bytes y.bytes x.read y.read in (
+      x.ends ∙ ap (λ (bytes : List ℕ). status_of (run_outcome M P bytes steps)) same ∙ sym y.ends,
+      x.is ∙ ap (λ (bytes : List ℕ). run_text M P file stimuli bytes steps) same ∙ sym y.is,
+    )
+
+pub one_run : Laws → (files : Files) (file code stimuli : List ℕ) (steps : ℕ) (status other : Status) (text more : List ℕ)
+    → IsOutputFor (Some files) (Run file code stimuli steps) status text → IsOutputFor (Some files) (Run file code stimuli steps) other more
+    → (status ≡ other) × (text ≡ more)
+one_run laws files file code stimuli steps status other text more (inl x) (inl y) = same_report laws files file text more status other x y
+one_run laws files file code stimuli steps status other text more (inl x) (inr (inl y)) = absurd (never_reported laws files file text y.model status y.has_model x)
+one_run laws files file code stimuli steps status other text more (inl x) (inr (inr y)) = absurd (never_reported laws files file text y.model status y.has_model x)
+one_run laws files file code stimuli steps status other text more (inr (inl x)) (inl y) = absurd (never_reported laws files file more x.model other x.has_model y)
+one_run laws files file code stimuli steps status other text more (inr (inl x)) (inr (inl y)) = same_bad_line laws files file code text more status other x y
+one_run laws files file code stimuli steps status other text more (inr (inl x)) (inr (inr y)) = absurd (never_bad_line laws files file code text status y.model y.program x y.has_model y.has_program)
+one_run laws files file code stimuli steps status other text more (inr (inr x)) (inl y) = absurd (never_reported laws files file more x.model other x.has_model y)
+one_run laws files file code stimuli steps status other text more (inr (inr x)) (inr (inl y)) = absurd (never_bad_line laws files file code more other x.model x.program y x.has_model x.has_program)
+one_run laws files file code stimuli steps status other text more (inr (inr x)) (inr (inr y)) =
+    let models : y.model ≡ x.model = same_model laws files file y.model x.model y.has_model x.has_model in
+    let H : Model → Type 0 = λ model. HasProgram (Some files) code model y.program in
+    let T : Model → Type 0 = λ model. IsTrace (Some files) model y.program file stimuli steps other more in
+    let programs : y.program ≡ x.program = same_program laws files code x.model y.program x.program (subst H models y.has_program) x.has_program in
+    let U : CProgram → Type 0 = λ program. IsTrace (Some files) x.model program file stimuli steps other more in
+    same_trace files x.model x.program file stimuli text more steps status other x.traces (subst U programs (subst T models y.traces))
+
+pub one_compilation : Laws → (files : Files) (file : List ℕ) (status other : Status) (text more : List ℕ)
+    → IsOutputFor (Some files) (Compile file) status text → IsOutputFor (Some files) (Compile file) other more → status ≡ other
+one_compilation laws files file status other text more (inl x) (inl y) = x.refused ∙ sym y.refused
+one_compilation laws files file status other text more (inl x) (inr y) = absurd (never_reported laws files file text y.model status y.has_model x)
+one_compilation laws files file status other text more (inr x) (inl y) = absurd (never_reported laws files file more x.model other x.has_model y)
+one_compilation laws files file status other text more (inr x) (inr y) = x.done ∙ sym y.done
+
+pub one_refusal : Laws → (files : Files) (file stimuli : List ℕ) (steps : ℕ) (status : Status) (text line : List ℕ)
+    → IsReport (Some files) file Refused line → IsOutputFor (Some files) (Simulate file stimuli steps) status text → (status ≡ Refused) × (text ≡ line)
+one_refusal laws files file stimuli steps status text line report (inl x) = same_report laws files file text line status Refused x report
+one_refusal laws files file stimuli steps status text line report (inr x) = absurd (never_reported laws files file line x.model Refused x.has_model report)
+
+-- ---- files with too many bytes
+
+pub never_too_large : Laws → (files : Files) (command : Command) (status : Status) (text : List ℕ)
+    → IsOutputFor (Some files) command status text → IsTooLargeFor (Some files) command → ⊥
+never_too_large laws files (Compile file) status text (inl x) large = never_large files file x.bytes x.read large
+never_too_large laws files (Compile file) status text (inr x) large = never_large files file x.has_model.bytes x.has_model.read large
+never_too_large laws files (Run file code stimuli steps) status text (inl x) (inl large) = never_large files file x.bytes x.read large
+never_too_large laws files (Run file code stimuli steps) status text (inl x) (inr (inl large)) = never_reported laws files file text large.0 status large.1 x
+never_too_large laws files (Run file code stimuli steps) status text (inl x) (inr (inr large)) = never_reported laws files file text large.0 status large.1 x
+never_too_large laws files (Run file code stimuli steps) status text (inr (inl x)) (inl large) = never_large files file x.has_model.bytes x.has_model.read large
+never_too_large laws files (Run file code stimuli steps) status text (inr (inl x)) (inr (inl large)) = never_large files code x.bytes x.read large.2
+never_too_large laws files (Run file code stimuli steps) status text (inr (inl x)) (inr (inr large)) = never_bad_line laws files file code text status large.0 large.2.0 x large.1 large.2.1
+never_too_large laws files (Run file code stimuli steps) status text (inr (inr x)) (inl large) = never_large files file x.has_model.bytes x.has_model.read large
+never_too_large laws files (Run file code stimuli steps) status text (inr (inr x)) (inr (inl large)) = never_large files code x.has_program.bytes x.has_program.read large.2
+never_too_large laws files (Run file code stimuli steps) status text (inr (inr x)) (inr (inr large)) = never_large files stimuli x.traces.bytes x.traces.read large.3
+never_too_large laws files (Simulate file stimuli steps) status text (inl x) (inl large) = never_large files file x.bytes x.read large
+never_too_large laws files (Simulate file stimuli steps) status text (inl x) (inr large) = never_reported laws files file text large.0 status large.1 x
+never_too_large laws files (Simulate file stimuli steps) status text (inr x) (inl large) = never_large files file x.has_model.bytes x.has_model.read large
+never_too_large laws files (Simulate file stimuli steps) status text (inr x) (inr large) = never_large files stimuli x.traces.bytes x.traces.read large.2

@@ -1,9 +1,0 @@
-use Rattle.og_tool.proofs.Formed.{model_is_formed}
-use Rattle.og_tool.proofs.Resolving.{model_is_basic}
-use Rattle.og_tool.proofs.laws.models_are_well_formed.Goals as goal
-
-pub returns-clause-formed : goal.returns-clause-formed
-returns-clause-formed c = model_is_formed
-
-pub returns-clause-basic : goal.returns-clause-basic
-returns-clause-basic c = model_is_basic

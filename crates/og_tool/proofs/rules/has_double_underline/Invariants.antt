@@ -1,7 +1,0 @@
-use Rattle.std.proofs.Common.{false}
-use Rattle.og_tool.proofs.Loops.{Left}
-use Rattle.og_tool.proofs.Underlines.{after}
-use Rattle.og_tool.proofs.rules.has_double_underline.Given as goal
-
-abbrev pub invariant-loop-byte : goal.invariant-loop-byte
-invariant-loop-byte l = Left (after l.before) l.bytes l.byte-index (after false l.bytes)

@@ -1,6 +1,0 @@
-use Rattle.og_tool.specs.Rules.{double_underline}
-use Rattle.og_tool.proofs.Loops.{Noted}
-use Rattle.og_tool.proofs.rules.note_double_underlines_of_states.Given as goal
-
-abbrev pub invariant-loop-state : goal.invariant-loop-state
-invariant-loop-state l = Noted (λ state. double_underline state.name) l.states l.state-index l.first l.initial.first

@@ -1,6 +1,0 @@
-use Rattle.og_tool.specs.Rules.{used_by_state}
-use Rattle.og_tool.proofs.Loops.{Noted}
-use Rattle.og_tool.proofs.rules.note_unknown_in_states.Given as goal
-
-abbrev pub invariant-loop-state : goal.invariant-loop-state
-invariant-loop-state l = Noted (used_by_state l.tables) l.states l.state-index l.first l.initial.first

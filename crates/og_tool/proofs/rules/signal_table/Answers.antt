@@ -1,6 +1,0 @@
-use Rattle.og_tool.proofs.Additions.{named_more}
-use Rattle.og_tool.proofs.rules.signal_table.Goals as goal
-
-pub loop-signal-preserved : goal.loop-signal-preserved
-loop-signal-preserved c =
-    named_more c.loop-signal.table _ c.args.signals.now c.loop-signal.signal-index c.signal-item.result _ c.loop-signal-test.true c.signal-item.is c.in_ok-add_declared.ensures c.loop-signal.invariant

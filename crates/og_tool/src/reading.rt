@@ -1,0 +1,102 @@
+//! Model files that are read, checked and built.
+ghost use Rattle.std.specs.Prelude.{◌≡◌, ℕ, ◌≤◌, ◌∷◌, ◌<◌, List, None, length, IfOk, IfErr, IsErrOf};
+ghost use Rattle.og_base.specs.declared.Rule.TheVariants as rule;
+ghost use Rattle.og_base.specs.Store.{Rose, HoldsMore};
+ghost use Rattle.og_lexer.specs.declared.Spanned.{Spanned};
+ghost use Rattle.og_tool.specs.Answering.{IsBuilt, IsBuiltFrom, TellsModel, IsFirst, IsFirstOfRules, IsRefusal};
+ghost use Rattle.og_tool.specs.Answers.{limit};
+ghost use Rattle.og_front.specs.Files.{report_line as line_of};
+ghost use Rattle.og_front.specs.Names.{HasShortNames};
+ghost use Rattle.og_front.specs.Written.{IsWrittenTree};
+
+use crate::report::report_line;
+use og_base::{ModelError, ReadError, Rule, Store, Violation, read_all};
+use og_front::{ParseError, SystemText, first_violation, model_of, parse_system, tables_of};
+use og_lexer::{Spanned, lex_sdl};
+use og_model::Model;
+use og_names::NoMemory;
+use std::alloc::Global;
+
+/// The most bytes that a file may have.
+pub const LIMIT: u64 = 67108864;
+
+/// The model of a file, or the line that names its first violation.
+#[derive(Drop)]
+pub enum ModelFile {
+    Accepted(Model),
+    Refused(Vec<u8>),
+}
+
+/// Reads the model file of this name.
+pub fn read_model<S: Store>(
+    alloc: Global,
+    store: &mut S,
+    file: &str,
+) -> Result<ModelFile, ReadError>
+    ensures read { IfOk result (TellsModel (S.holds store.old) file.now) }
+    ensures fault { IsErrOf result ReadError.Fault → Rose (S.faults store.old file.now) (S.faults store.new file.now) }
+    ensures too_large { IsErrOf result ReadError.TooLarge → HoldsMore (S.holds store.old) file.now limit }
+    ensures store_counts { (other : List ℕ) → S.faults store.old other ≤ S.faults store.new other }
+    ensures kept { S.holds store.new ≡ S.holds store.old }
+{
+    let bytes = read_all(alloc, store, file, LIMIT)?;
+    match model_of_bytes(alloc, &bytes) {
+        Ok(model) => Ok(ModelFile::Accepted(model)),
+        Err(ModelError::NoMemory) => Err(ReadError::NoMemory),
+        Err(ModelError::Broken(violation)) => refused(alloc, file.as_bytes(), violation),
+    }
+}
+
+/// The line that names the violation.
+fn refused(alloc: Global, file: &[u8], violation: Violation) -> Result<ModelFile, ReadError>
+    ensures line { IfOk result (IsRefusal (line_of file.now violation)) }
+    ensures no_memory { IfErr result (λ error. error ≡ ReadError.NoMemory) }
+{
+    match report_line(alloc, file, violation) {
+        Ok(line) => Ok(ModelFile::Refused(line)),
+        Err(NoMemory) => Err(ReadError::NoMemory),
+    }
+}
+
+/// The model of an accepted file, or its first violation.
+fn model_of_bytes(alloc: Global, bytes: &[u8]) -> Result<Model, ModelError>
+    requires { length bytes.now ≤ limit }
+    ensures built { IfOk result (IsBuilt bytes.now) }
+    ensures broken { IfErr result (IsFirst bytes.now) }
+{
+    let lexed = lex_sdl(alloc, 0, bytes)?;
+    let tokens = lexed.tokens.as_slice();
+    match parse_system(alloc, tokens) {
+        Err(ParseError::NoMemory) => Err(ModelError::NoMemory),
+        Err(ParseError::NoSentence) => Err(no_sentence(tokens)),
+        Ok(system) => model_of_system(alloc, &system),
+    }
+}
+
+/// The model of a file that keeps the rules, or its first violation.
+fn model_of_system(alloc: Global, system: &SystemText) -> Result<Model, ModelError>
+    requires short { HasShortNames system.now }
+    requires written { IsWrittenTree system.now }
+    ensures built { IfOk result (IsBuiltFrom system.now) }
+    ensures broken { IfErr result (IsFirstOfRules system.now) }
+{
+    let tables = tables_of(alloc, system)?;
+    if let Some(violation) = first_violation(alloc, system, &tables)? {
+        return Err(ModelError::Broken(violation));
+    }
+    match model_of(alloc, system, &tables) {
+        Ok(model) => Ok(model),
+        Err(NoMemory) => Err(ModelError::NoMemory),
+    }
+}
+
+/// F1 at the first token.
+fn no_sentence(tokens: &[Spanned]) -> ModelError
+    requires { 0 < length tokens.now }
+    ensures { (first : Spanned) × (more : List Spanned) × (tokens.now ≡ first ∷ more) × (result ≡ ModelError.Broken (record { rule = rule.F1; place = first.place })) }
+{
+    ModelError::Broken(Violation {
+        rule: Rule::F1,
+        place: tokens[0].place,
+    })
+}

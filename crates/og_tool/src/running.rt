@@ -1,0 +1,217 @@
+//! Runs of programs over models and files of stimuli.
+ghost use Rattle.std.specs.Prelude.{◌≡◌, ℕ, ◌≤◌, List, length, IfOk, IfErr, IsErrOf};
+ghost use Rattle.og_base.specs.Store.{HoldsMore};
+ghost use Rattle.og_cstep.specs.Machines.{run_of};
+ghost use Rattle.og_trace.specs.Traces.{run_text, run_outcome};
+ghost use Rattle.og_tool.specs.Answering.{IsReady};
+ghost use Rattle.og_tool.specs.Answers.{limit, IsTrace, IsOutputFor, FailedFor, IsTooLargeFor, RoseAt, status_of as status_for};
+ghost use Rattle.og_tool.specs.Loading.{Runs};
+ghost use Rattle.og_tool.specs.Programs.{bad_program_line as line_of};
+ghost use Rattle.og_tool.specs.Ready.{CanRun};
+ghost use Rattle.og_tool.specs.Words.{Run, Simulate};
+
+use crate::compile::compile;
+use crate::program::{BadProgram, Loaded, ProgramError, load_compiled, load_text};
+use crate::reading::{LIMIT, ModelFile, read_model};
+use crate::report::bad_program_line;
+use crate::status::Status;
+use og_base::{ReadError, Store, read_all};
+use og_model::Model;
+use og_names::NoMemory;
+use og_trace::{Outcome, trace};
+use std::alloc::Global;
+
+/// What a command calls for, with the status under which it is written.
+#[derive(Drop)]
+pub struct Output {
+    pub status: Status,
+    pub text: Vec<u8>,
+}
+
+/// `run`: the model file, the program's file and the stimuli are read whole, and the program runs over them.
+pub fn run_program<S: Store>(
+    alloc: Global,
+    store: &mut S,
+    file: &str,
+    program: &str,
+    stimuli: &str,
+    steps: u32,
+) -> Result<Output, ReadError>
+    ensures output { IfOk result (λ output. IsOutputFor (S.holds store.old) (Run file.now program.now stimuli.now steps) output.status output.text.items) }
+    ensures fault { IsErrOf result ReadError.Fault → FailedFor (S.holds store.old) (Run file.now program.now stimuli.now steps) (S.faults store.old) (S.faults store.new) }
+    ensures too_large { IsErrOf result ReadError.TooLarge → IsTooLargeFor (S.holds store.old) (Run file.now program.now stimuli.now steps) }
+    ensures store_counts { (other : List ℕ) → S.faults store.old other ≤ S.faults store.new other }
+    ensures kept { S.holds store.new ≡ S.holds store.old }
+{
+    match read_model(alloc, store, file)? {
+        ModelFile::Refused(text) => Ok(Output {
+            status: Status::Refused,
+            text,
+        }),
+        ModelFile::Accepted(model) => {
+            run_over_model(alloc, store, &model, file, program, stimuli, steps)
+        }
+    }
+}
+
+/// Runs the program of a file over a model that was read.
+fn run_over_model<S: Store>(
+    alloc: Global,
+    store: &mut S,
+    model: &Model,
+    file: &str,
+    program: &str,
+    stimuli: &str,
+    steps: u32,
+) -> Result<Output, ReadError>
+    requires { IsReady (S.holds store.old) file.now model.now }
+    ensures output { IfOk result (λ output. IsOutputFor (S.holds store.old) (Run file.now program.now stimuli.now steps) output.status output.text.items) }
+    ensures fault { IsErrOf result ReadError.Fault → FailedFor (S.holds store.old) (Run file.now program.now stimuli.now steps) (S.faults store.old) (S.faults store.new) }
+    ensures too_large { IsErrOf result ReadError.TooLarge → IsTooLargeFor (S.holds store.old) (Run file.now program.now stimuli.now steps) }
+    ensures store_counts { (other : List ℕ) → S.faults store.old other ≤ S.faults store.new other }
+    ensures kept { S.holds store.new ≡ S.holds store.old }
+{
+    let bytes = read_all(alloc, store, program, LIMIT)?;
+    match load_text(alloc, &bytes, model) {
+        Ok(loaded) => run_loaded(alloc, store, loaded, model, file, stimuli, steps),
+        Err(ProgramError::Bad(bad)) => bad_program(alloc, program.as_bytes(), bad),
+        Err(ProgramError::NoMemory) => Err(ReadError::NoMemory),
+    }
+}
+
+/// The line that says what is wrong with the program's file.
+fn bad_program(alloc: Global, file: &[u8], bad: BadProgram) -> Result<Output, ReadError>
+    ensures status { IfOk result (λ output. output.status ≡ Status.BadFile) }
+    ensures line { IfOk result (λ output. output.text.items ≡ line_of file.now bad) }
+    ensures no_memory { IfErr result (λ error. error ≡ ReadError.NoMemory) }
+{
+    match bad_program_line(alloc, file, bad) {
+        Ok(text) => Ok(Output {
+            status: Status::BadFile,
+            text,
+        }),
+        Err(NoMemory) => Err(ReadError::NoMemory),
+    }
+}
+
+/// `sim`: the model file is read and compiled, and the program of its C runs over the stimuli, which are read whole.
+pub fn simulate<S: Store>(
+    alloc: Global,
+    store: &mut S,
+    file: &str,
+    stimuli: &str,
+    steps: u32,
+) -> Result<Output, ReadError>
+    ensures output { IfOk result (λ output. IsOutputFor (S.holds store.old) (Simulate file.now stimuli.now steps) output.status output.text.items) }
+    ensures fault { IsErrOf result ReadError.Fault → FailedFor (S.holds store.old) (Simulate file.now stimuli.now steps) (S.faults store.old) (S.faults store.new) }
+    ensures too_large { IsErrOf result ReadError.TooLarge → IsTooLargeFor (S.holds store.old) (Simulate file.now stimuli.now steps) }
+    ensures store_counts { (other : List ℕ) → S.faults store.old other ≤ S.faults store.new other }
+    ensures kept { S.holds store.new ≡ S.holds store.old }
+{
+    match read_model(alloc, store, file)? {
+        ModelFile::Refused(text) => Ok(Output {
+            status: Status::Refused,
+            text,
+        }),
+        ModelFile::Accepted(model) => { simulate_model(alloc, store, &model, file, stimuli, steps) }
+    }
+}
+
+/// Compiles a model that was read, and runs the program of its C.
+fn simulate_model<S: Store>(
+    alloc: Global,
+    store: &mut S,
+    model: &Model,
+    file: &str,
+    stimuli: &str,
+    steps: u32,
+) -> Result<Output, ReadError>
+    requires { IsReady (S.holds store.old) file.now model.now }
+    ensures output { IfOk result (λ output. IsOutputFor (S.holds store.old) (Simulate file.now stimuli.now steps) output.status output.text.items) }
+    ensures fault { IsErrOf result ReadError.Fault → FailedFor (S.holds store.old) (Simulate file.now stimuli.now steps) (S.faults store.old) (S.faults store.new) }
+    ensures too_large { IsErrOf result ReadError.TooLarge → IsTooLargeFor (S.holds store.old) (Simulate file.now stimuli.now steps) }
+    ensures store_counts { (other : List ℕ) → S.faults store.old other ≤ S.faults store.new other }
+    ensures kept { S.holds store.new ≡ S.holds store.old }
+{
+    let text = compile(alloc, model)?;
+    let loaded = load_compiled(alloc, &text, model)?;
+    run_loaded(alloc, store, loaded, model, file, stimuli, steps)
+}
+
+/// Runs a loaded program over a file of stimuli.
+fn run_loaded<S: Store>(
+    alloc: Global,
+    store: &mut S,
+    loaded: Loaded,
+    model: &Model,
+    file: &str,
+    stimuli: &str,
+    steps: u32,
+) -> Result<Output, ReadError>
+    requires can { CanRun model.now }
+    requires runs { Runs (run_of loaded.machine).program model.now loaded }
+    ensures output { IfOk result (λ output. IsTrace (S.holds store.old) model.now (run_of loaded.machine).program file.now stimuli.now steps output.status output.text.items) }
+    ensures fault { IsErrOf result ReadError.Fault → RoseAt stimuli.now (S.faults store.old) (S.faults store.new) }
+    ensures too_large { IsErrOf result ReadError.TooLarge → HoldsMore (S.holds store.old) stimuli.now limit }
+    ensures store_counts { (other : List ℕ) → S.faults store.old other ≤ S.faults store.new other }
+    ensures kept { S.holds store.new ≡ S.holds store.old }
+{
+    let bytes = read_all(alloc, store, stimuli, LIMIT)?;
+    match traced(
+        alloc,
+        loaded,
+        model,
+        file.as_bytes(),
+        stimuli.as_bytes(),
+        &bytes,
+        steps,
+    ) {
+        Ok(output) => Ok(output),
+        Err(NoMemory) => Err(ReadError::NoMemory),
+    }
+}
+
+/// What a loaded program writes over these bytes of a file of stimuli.
+fn traced(
+    alloc: Global,
+    loaded: Loaded,
+    model: &Model,
+    file: &[u8],
+    name: &[u8],
+    bytes: &[u8],
+    steps: u32,
+) -> Result<Output, NoMemory>
+    requires can { CanRun model.now }
+    requires runs { Runs (run_of loaded.machine).program model.now loaded }
+    ensures text { IfOk result (λ output. output.text.items ≡ run_text model.now (run_of loaded.machine).program file.now name.now bytes.now steps) }
+    ensures status { IfOk result (λ output. output.status ≡ status_for (run_outcome model.now (run_of loaded.machine).program bytes.now steps)) }
+{
+    let mut machine = loaded.machine;
+    let traced = trace(
+        alloc,
+        &mut machine,
+        model,
+        &loaded.regions,
+        file,
+        name,
+        bytes,
+        steps,
+    )?;
+    Ok(Output {
+        status: status_of(traced.outcome),
+        text: traced.text,
+    })
+}
+
+/// The status of a run that has ended so.
+fn status_of(outcome: Outcome) -> Status
+    ensures { result ≡ status_for outcome }
+{
+    match outcome {
+        Outcome::Done => Status::Done,
+        Outcome::BadFile => Status::BadFile,
+        Outcome::Past => Status::Past,
+        Outcome::Faulted => Status::Faulted,
+        Outcome::Stuck => Status::Stuck,
+    }
+}
