@@ -85,5 +85,3 @@ pub enum ModelError {
     NoMemory,
 }
 
-#[cfg(test)]
-mod tests;

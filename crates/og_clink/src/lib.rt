@@ -16,5 +16,3 @@ pub use memory::Halt;
 pub use position::{Call, Position};
 pub use stepping::step;
 
-#[cfg(test)]
-mod tests;

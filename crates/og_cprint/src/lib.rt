@@ -7,5 +7,3 @@ mod program;
 
 pub use program::print_c;
 
-#[cfg(test)]
-mod tests;

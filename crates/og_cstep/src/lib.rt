@@ -58,5 +58,3 @@ pub struct Machine {
     ghost interface_is: { interface ≡ interface_of program model },
 }
 
-#[cfg(test)]
-mod tests;

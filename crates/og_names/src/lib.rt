@@ -27,5 +27,3 @@ pub struct Word {
     pub bytes: Items<u8>,
 }
 
-#[cfg(test)]
-mod tests;

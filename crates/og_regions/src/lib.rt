@@ -37,5 +37,3 @@ pub fn number(alloc: Global, model: &Model) -> Result<Regions, NoMemory>
     Ok(Regions { list: all })
 }
 
-#[cfg(test)]
-mod tests;

@@ -4,8 +4,6 @@
 mod lines;
 mod show;
 mod stimuli;
-#[cfg(test)]
-mod tests;
 
 pub use show::{ActiveLeaf, Happening, TraceEnd, show_end, show_event, show_stimulus};
 pub use stimuli::{Cursor, StimError, StimRule, Stimulus, next_stimulus};

@@ -8,14 +8,8 @@ mod program;
 mod reading;
 mod report;
 mod run;
-#[cfg(test)]
-mod run_tests;
 mod running;
 mod status;
-#[cfg(test)]
-mod tests;
-#[cfg(test)]
-mod whole_tests;
 
 pub use og_front::{
     first_is_least, models_are_well_formed, models_of_trees, names_are_short, one_answer,

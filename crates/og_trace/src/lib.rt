@@ -164,5 +164,3 @@ fn put(out: &mut Vec<u8>, bytes: &[u8]) -> Result<(), NoMemory>
     Ok(())
 }
 
-#[cfg(test)]
-mod tests;
