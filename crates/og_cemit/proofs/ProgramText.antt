@@ -20,7 +20,6 @@ use Rattle.og_ir.specs.declared.Test.{Test}
 use Rattle.og_ir.specs.declared.Case.{Case}
 use Rattle.og_ir.specs.Arithmetic.{in_64_bits}
 use Rattle.og_ir.specs.CellsOnly.{is_plain_by, is_plain_within, is_plain, is_plain_instruction, UsesCellsOnly}
-use Rattle.og_ir.proofs.ValueCells.{left_of, right_of}
 use Rattle.og_csubset.specs.declared.CStmt.{CStmt}
 use Rattle.og_csubset.specs.declared.CStmt.TheVariants.{Label, Call, Return}
 use Rattle.og_csubset.specs.declared.CCase.{CCase}
@@ -43,6 +42,7 @@ use Rattle.og_cemit.proofs.Declared.{short_at}
 use Rattle.og_cemit.proofs.LoadNames.{event_is_flat}
 use Rattle.og_cemit.proofs.LabelNames.{label_is_name}
 use Rattle.og_cemit.proofs.TextGoes.{Right, Goes, goes_none, goes_token, goes_on, goes_each, nest_at, Deepens, deepens_more, deepens_name, deepens_then, deepens_one, returns_bracket, PieceDeepens, piece_deepens, number_deepens, op_deepens}
+use Rattle.og_names.proofs.Truths.{both_first as left_of, both_second as right_of}
 
 -- ---- statements
 

@@ -3,13 +3,13 @@ use Rattle.std.proofs.Common.{◌≡◌, ℕ, suc, ◌+◌, ◌-◌, ◌^◌, �
 use Rattle.std.specs.Prelude.{int_le, int_lt}
 use Rattle.std.proofs.lemmas.Bool.{false≢true, ltb-true, ltb-false, leb-true}
 use Rattle.og_ir.specs.Arithmetic.{in_64_bits}
-use Rattle.og_ir.proofs.ValueCells.{left_of, right_of}
 use Rattle.og_csubset.specs.declared.COp.{COp}
 use Rattle.og_csubset.specs.declared.COp.TheVariants.{Sub}
 use Rattle.og_csubset.specs.Tokens.{Token, name, number, operator, keyword, mark, INT64_C, open_round, close_round, IsToken}
 use Rattle.og_csubset.specs.Spelling.{literal, least_text}
 use Rattle.og_csubset.specs.Nesting.{Level, Nest, after_token, nesting_from}
 use Rattle.og_csubset.specs.Plain.{Text, Piece, piece, bracketed, shown, number_piece, is_least_sum, op_level, operation, op_piece, each, AreTokens}
+use Rattle.og_names.proofs.Truths.{both_first as left_of, both_second as right_of}
 
 -- tokens that nest at most 256 deep, from here on
 pub record Right (nest : Nest) (tokens : List Token) : Type 0 where

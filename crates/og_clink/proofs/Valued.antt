@@ -9,7 +9,7 @@ use Rattle.og_ccells.specs.declared.cells.Tree.{Tree, Row}
 use Rattle.og_ccells.specs.Trees.{cells_of}
 use Rattle.og_ccells.proofs.Celled.{cells_Cell, cells_Row}
 use Rattle.og_cload.proofs.Grown.{grown_one}
-use Rattle.og_cload.proofs.Loops.{Left}
+use Rattle.og_names.proofs.Loops.{Left}
 use Rattle.og_clink.specs.declared.code.Expression.{Expression, Literal, Read, Minus, Op, Choice, fold-roll-Expression}
 use Rattle.og_clink.specs.declared.code.Expression.TheVariants.{rolls-Literal, rolls-Read, rolls-Minus, rolls-Op, rolls-Choice}
 use Rattle.og_clink.specs.declared.code.Expression.TheOpen as open'

@@ -26,8 +26,8 @@ use Rattle.og_model.specs.Forms.{UsesBasicStatesOnly, is_output, is_plain_step, 
 use Rattle.og_model.specs.Resolved.{IsResolved, Surroundings, in_states, is_signal, if_any, is_known, is_action, is_step, is_end, is_ending, is_block_within, is_body, is_handler, is_state, is_start, is_level, is_scope_within}
 use Rattle.og_model.specs.WellSorted.{is_place}
 use Rattle.og_model.specs.WellFormed.{IsWellFormed}
-use Rattle.og_ir.proofs.ValueCells.{left_of, right_of}
 use Rattle.og_flatten.specs.FlatCode.{bodies_of, states_of, starts_of, steps_of, end_of}
+use Rattle.og_names.proofs.Truths.{both_first as left_of, both_second as right_of}
 
 -- what holds of each element holds of the one at a place
 pub every : {A : Type 0} (p : A → Bool) (xs : List A) (k : ℕ) (x : A) → list_all p xs ≡ true → slice_get xs k ≡ Some x → p x ≡ true
