@@ -50,11 +50,11 @@ bound r f x e = ap (λ s. s >>= f) e
 
 pub stopped : {A B : Type 0} (h : Halt) (r : Result A Trouble) (f : A → Result B Trouble) → Halts h r → Halts h (r >>= f)
 stopped (Stuck rule) r f e = ap (λ s. s >>= f) e
-stopped NoMemory r f e = tt
+stopped (NoMemory met) r f e = tt
 
 pub along : {A : Type 0} (h : Halt) (r s : Result A Trouble) → r ≡ s → Halts h s → Halts h r
 along (Stuck rule) r s e halts = e ∙ halts
-along NoMemory r s e halts = tt
+along (NoMemory met) r s e halts = tt
 
 -- ---- one layer of each tree
 

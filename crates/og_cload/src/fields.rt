@@ -185,7 +185,7 @@ pub fn count_of(length: usize) -> Result<u32, NoMemory>
     ensures { IfOk result (λ count. count ≡ length) }
 {
     if length > u32::MAX as usize {
-        return Err(NoMemory);
+        return Err(NoMemory::past_numbers(length));
     }
     Ok(length as u32)
 }

@@ -108,7 +108,7 @@ pub fn number_of(count: usize) -> Result<u32, NoMemory>
 {
     match u32::try_from(count) {
         Ok(number) => Ok(number),
-        Err(_) => Err(NoMemory),
+        Err(_) => Err(NoMemory::past_numbers(count)),
     }
 }
 
@@ -117,6 +117,6 @@ pub fn sum_of(first: usize, second: usize) -> Result<usize, NoMemory>
 {
     match first.checked_add(second) {
         Some(sum) => Ok(sum),
-        None => Err(NoMemory),
+        None => Err(NoMemory::past_numbers(first.max(second))),
     }
 }

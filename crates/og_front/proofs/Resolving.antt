@@ -276,6 +276,7 @@ resolved system written keeps =
       names = all_names_are [] (all_names system) refl (written_names system written);
       process = number_below (name_table system) system.process (known_names system).process;
       types = refl;
+      few_types = refl;
       type_names = refl;
       signals = good_signals system;
       timers = refl;

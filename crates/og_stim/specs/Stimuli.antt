@@ -124,4 +124,4 @@ IsNext M text old new (Some x) =
 abbrev pub IsBadLine : Model → List ℕ → Cursor → Cursor → StimError → Type 0
 IsBadLine M text old new (error.Bad line r) =
     (new ≡ old) × (next_in M old.line (lines_of (drop old.offset text)) ≡ Bad line r)
-IsBadLine M text old new error.NoMemory = new ≡ old
+IsBadLine M text old new (error.NoMemory met) = new ≡ old

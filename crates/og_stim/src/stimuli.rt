@@ -4,7 +4,7 @@ ghost use Rattle.og_stim.specs.Stimuli.{judged, known_or_unknown, stimulus_named
 
 use crate::lines::{first_line, is_skipped, name_in};
 use og_model::{Model, Signal, StimId};
-use og_names::NameId;
+use og_names::{NameId, NoMemory};
 use og_types::Value;
 use sqlite_items::Items;
 use std::alloc::Global;
@@ -37,7 +37,7 @@ pub enum StimRule {
 #[derive(Clone, Copy, Debug, PartialEq, Eq)]
 pub enum StimError {
     Bad { line: u32, rule: StimRule },
-    NoMemory,
+    NoMemory(NoMemory),
 }
 
 /// The most lines that a file may have, and the most bytes that a line may have.

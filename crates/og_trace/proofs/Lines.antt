@@ -196,4 +196,4 @@ at_stimulus M text old new (Some y) x some is =
 pub at_bad : (M : Model) (text : List ℕ) (old new : Cursor) (e : StimError) (line : ℕ) (r : StimRule) → e ≡ error.Bad line r → IsBadLine M text old new e
     → next_in M old.line (lines_of (drop old.offset text)) ≡ Bad line r
 at_bad M text old new (error.Bad n q) line r same is = is.1 ∙ cc
-at_bad M text old new error.NoMemory line r same is = absurd (cc)
+at_bad M text old new (error.NoMemory met) line r same is = absurd (cc)
