@@ -35,7 +35,8 @@ use Rattle.og_csubset.specs.Fair.{held_at, is_one, number_by, is_number, is_righ
 use Rattle.og_csubset.proofs.Depth.{is_number_is}
 use Rattle.og_csubset.proofs.FairParts.{number_is}
 use Rattle.og_csubset.proofs.Steady.{all_at}
-use Rattle.og_cemit.specs.Emitted.{place_at, operator_of, number_of, calls_function, calls_event, statement_at, is_marked, label_at, label_before, statements_at, statements_from, targets, function_of, global_of, program_of}
+use Rattle.og_csubset.specs.FlatText.{operator_of}
+use Rattle.og_cemit.specs.Emitted.{place_at, number_of, calls_function, calls_event, statement_at, is_marked, label_at, label_before, statements_at, statements_from, targets, function_of, global_of, program_of}
 use Rattle.og_cemit.proofs.Parts.{slot_kind, one_slot, joined_slots, right_at}
 use Rattle.og_cemit.proofs.Values.{expression_of, number_of_is}
 use Rattle.og_cemit.proofs.LoadNames.{all_append}

@@ -23,7 +23,8 @@ use Rattle.og_csubset.specs.Kinds.{Kind, place_in, is_in, global_names, function
 use Rattle.og_csubset.specs.Loading.{has_twice}
 use Rattle.og_csubset.specs.FlatRun.{slot_names, flat_function_names}
 use Rattle.og_csubset.specs.Fair.{Held, held_in_slot, held_after, held_at, is_one, joins, is_number, is_right, are_right, names_of, Fair}
-use Rattle.og_cemit.specs.Emitted.{slot_word, global_of, function_of, program_of}
+use Rattle.og_csubset.specs.FlatText.{slot_word}
+use Rattle.og_cemit.specs.Emitted.{global_of, function_of, program_of}
 use Rattle.og_cemit.proofs.Names.{get_map, there, within, place_at_self, is_in_at, Differ, differ_parts}
 use Rattle.og_names.proofs.Truths.{both_first as left_of, both_second as right_of, not_true}
 

@@ -39,7 +39,8 @@ use Rattle.og_csubset.specs.Step.{cstep}
 use Rattle.og_csubset.specs.Fair.{Fair, held_at, is_one, number_by, is_number, has_equal_cases, is_right}
 use Rattle.og_csubset.proofs.FairParts.{number_is}
 use Rattle.og_csubset.proofs.Steady.{all_at}
-use Rattle.og_cemit.specs.Emitted.{label_text, place_at, operator_of, number_of, case_at, calls_function, calls_event, statement_at, is_marked, targets, used, body_of, function_of, program_of, AreShort}
+use Rattle.og_csubset.specs.FlatText.{operator_of}
+use Rattle.og_cemit.specs.Emitted.{label_text, place_at, number_of, case_at, calls_function, calls_event, statement_at, is_marked, targets, used, body_of, function_of, program_of, AreShort}
 use Rattle.og_cemit.proofs.Names.{get_map, there, within}
 use Rattle.og_cemit.proofs.Marking.{Among, target_marked, used_marked}
 use Rattle.og_cemit.proofs.Parts.{global_names_are, one_slot, joined_slots, right_at}

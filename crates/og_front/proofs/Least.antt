@@ -4,7 +4,7 @@ use Rattle.std.specs.Prelude.{◌↔◌}
 use Rattle.std.proofs.lemmas.Bool.Decides.{nat_tests}
 use Rattle.og_base.specs.declared.Violation.{Violation}
 use Rattle.og_base.specs.Order.{rank, comes_before, sooner, first_from, first_of}
-use Rattle.og_names.proofs.Truths.{either_true as either, either_second as either_right}
+use Rattle.og_names.proofs.Truths.{either_second as either_right, either_true as either}
 
 -- ---- the order is transitive
 

@@ -21,7 +21,7 @@ use Rattle.og_model.specs.WellSorted.{is_place}
 use Rattle.og_front.specs.declared.syntax.SystemText.{SystemText}
 use Rattle.og_front.specs.Grammar.{Form, Reserved, ReservedAt, Sign, Named, Last, Begins, system_forms, Spells}
 use Rattle.og_front.specs.Written.{IsWrittenForm, IsWrittenTree}
-use Rattle.og_names.proofs.Truths.{both_true as both, both_first as first, both_second as second}
+use Rattle.og_names.proofs.Truths.{both_first as first, both_second as second, both_true as both}
 
 -- ---- letters
 
