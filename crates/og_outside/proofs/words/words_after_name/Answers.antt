@@ -1,5 +1,3 @@
-use Rattle.std.proofs.Common.{rules, ◌∙◌, sym, ap}
-use Rattle.std.specs.Vec.Iter.{into_iter_items, into_iter_len}
 use Rattle.og_outside.proofs.Taken.{first_gone, none_taken, all_taken}
 use Rattle.og_outside.proofs.words.words_after_name.Goals as goal
 
