@@ -1,5 +1,5 @@
 //! A store over a folder of files.
-ghost use Rattle.std.specs.Prelude.{ℕ, ◌≡◌, ◌≤◌, length, IfOk, IfSome};
+ghost use Rattle.std.specs.Prelude.{ℕ, List, ◌≡◌, ◌≤◌, length, IfOk, IfSome};
 ghost use Rattle.og_base.specs.Store.{GivesPiece, IsPiece};
 ghost use Rattle.og_outside.specs.Opened.{IsFile};
 
@@ -19,7 +19,10 @@ pub struct FileStore<D> {
 }
 
 impl<D: Folder> FileStore<D> {
-    pub fn new(folder: D) -> FileStore<D> {
+    pub fn new(folder: D) -> FileStore<D>
+        ensures holds { ⟦<FileStore<D> as Store>⟧.holds result ≡ D.files folder }
+        ensures faults { (name : List ℕ) → ⟦<FileStore<D> as Store>⟧.faults result name ≡ 0 }
+    {
         FileStore {
             folder,
             failures: 0,

@@ -16,7 +16,9 @@ pub struct MemoryFolder<'a> {
 }
 
 impl<'a> MemoryFolder<'a> {
-    pub fn new(files: &'a [MemFile]) -> MemoryFolder<'a> {
+    pub fn new(files: &'a [MemFile]) -> MemoryFolder<'a>
+        ensures { ⟦<MemoryFolder<'a> as Folder>⟧.files result ≡ Some (file_named files.now) }
+    {
         MemoryFolder { files }
     }
 }

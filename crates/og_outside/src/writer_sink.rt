@@ -31,7 +31,10 @@ pub struct WriterSink<W> {
 }
 
 impl<W: Output> WriterSink<W> {
-    pub fn new(writer: W) -> WriterSink<W> {
+    pub fn new(writer: W) -> WriterSink<W>
+        ensures written { ⟦<WriterSink<W> as Sink>⟧.written result ≡ told W.tells (W.contents writer) }
+        ensures faults { ⟦<WriterSink<W> as Sink>⟧.faults result ≡ 0 }
+    {
         WriterSink {
             writer,
             failures: 0,
