@@ -1,46 +1,36 @@
 //! Want of memory, as it is answered by each kind of call.
-ghost use Rattle.std.specs.Prelude.{◌≡◌};
-
 use crate::{ModelError, ReadError};
 use og_names::NoMemory;
-use std::alloc::{AllocError, AllocFailed};
+use std::alloc::AllocError;
 
 impl From<NoMemory> for ModelError {
+    ghost use Rattle.std.specs.Prelude.{◌≡◌};
     ghost use Rattle.og_base.specs.declared.ModelError.TheVariants.{NoMemory as OutOfMemory};
 
-    ghost from_gives = { λ _ error. error ≡ OutOfMemory };
+    ghost from_gives = { λ met error. error ≡ OutOfMemory met };
 
-    fn from(_error: NoMemory) -> ModelError {
-        ModelError::NoMemory
-    }
-}
-
-impl From<AllocError> for ModelError {
-    ghost use Rattle.og_base.specs.declared.ModelError.TheVariants.{NoMemory as OutOfMemory};
-
-    ghost from_gives = { λ _ error. error ≡ OutOfMemory };
-
-    fn from(_error: AllocError) -> ModelError {
-        ModelError::NoMemory
-    }
-}
-
-impl<T: Drop> From<AllocFailed<T>> for ModelError {
-    ghost use Rattle.og_base.specs.declared.ModelError.TheVariants.{NoMemory as OutOfMemory};
-
-    ghost from_gives = { λ _ error. error ≡ OutOfMemory };
-
-    fn from(_error: AllocFailed<T>) -> ModelError {
-        ModelError::NoMemory
+    fn from(met: NoMemory) -> ModelError {
+        ModelError::NoMemory(met)
     }
 }
 
 impl From<NoMemory> for ReadError {
+    ghost use Rattle.std.specs.Prelude.{◌≡◌};
     ghost use Rattle.og_base.specs.declared.read.ReadError.TheVariants.{NoMemory as OutOfMemory};
 
-    ghost from_gives = { λ _ error. error ≡ OutOfMemory };
+    ghost from_gives = { λ met error. error ≡ OutOfMemory met };
 
-    fn from(_error: NoMemory) -> ReadError {
-        ReadError::NoMemory
+    fn from(met: NoMemory) -> ReadError {
+        ReadError::NoMemory(met)
+    }
+}
+
+impl From<AllocError> for ReadError {
+    ghost use Rattle.og_base.specs.Failing.{IsOutOfMemory};
+
+    ghost from_gives = { λ _ error. IsOutOfMemory error };
+
+    fn from(error: AllocError) -> ReadError {
+        ReadError::NoMemory(NoMemory::from(error))
     }
 }

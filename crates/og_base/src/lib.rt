@@ -10,6 +10,7 @@ mod store;
 mod write;
 
 pub use memory::{MemFile, MemSink, MemStore, NeverFailSink, NeverFailStore};
+use og_names::NoMemory;
 pub use order::sooner;
 pub use read::{ReadError, read_all};
 pub use sink::Sink;
@@ -82,6 +83,5 @@ pub struct Violation {
 #[derive(Clone, Copy, Debug, PartialEq, Eq)]
 pub enum ModelError {
     Broken(Violation),
-    NoMemory,
+    NoMemory(NoMemory),
 }
-

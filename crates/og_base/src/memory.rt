@@ -1,7 +1,8 @@
-ghost use Rattle.std.specs.Prelude.{◌≡◌, ◌≤◌, length, []};
+ghost use Rattle.std.specs.Prelude.{◌≡◌, ℕ, ◌+◌, ◌≤◌, ◌<◌, ◌⊎◌, List, Some, length, [], take, unwrap_or, is_err, IsOk, IsErr, IfOk, OnErr, IsTrue, if◌then◌else◌, vec_len, vec_capacity};
 ghost use Rattle.std.specs.Option.{option_copied};
-ghost use Rattle.og_base.specs.Memory.{file_named};
-ghost use Rattle.og_base.specs.Store.{IsPiece};
+ghost use Rattle.og_base.specs.Memory.{file_named, file_or_empty, is_bad, counted, read_fails, store_after_read, given_of, told_or_empty, nothing_told};
+ghost use Rattle.og_base.specs.Store.{IsPiece, GivesPiece, Rose};
+ghost use Rattle.og_base.specs.Sink.{grown};
 
 use crate::{Failed, Sink, Store};
 use std::alloc::Global;
@@ -55,6 +56,7 @@ fn find_file<'a>(files: &'a [MemFile], name: &[u8]) -> Option<&'a [u8]>
 fn give(bytes: &[u8], at: u64, into: &mut [u8]) -> usize
     ensures within { result ≤ length into.old }
     ensures piece { IsPiece bytes.now at into.old into.new result }
+    ensures all { result ≡ given_of bytes.now at (length into.old) }
 {
     if at >= bytes.len() as u64 {
         return 0;
@@ -75,7 +77,18 @@ impl Store for MemStore {
 
     ghost faults = { λ s _. s.failures };
 
-    fn read(&mut self, name: &str, at: u64, into: &mut [u8]) -> Result<usize, Failed> {
+    fn read(&mut self, name: &str, at: u64, into: &mut [u8]) -> Result<usize, Failed>
+        ensures within { IfOk result (λ count. count ≤ length into.old) }
+        ensures piece { IfOk result (GivesPiece (Some (file_named self.old.files.items)) name.now at into.old into.new) }
+        ensures fault { OnErr result (Rose self.old.failures self.new.failures) }
+        ensures counts { (other : List ℕ) → self.old.failures ≤ self.new.failures }
+        ensures kept { Some (file_named self.new.files.items) ≡ Some (file_named self.old.files.items) }
+
+        // Which calls fail, what each call leaves, and that all bytes are given for which there is room.
+        ensures fails { is_err result ≡ read_fails self.old name.now }
+        ensures after { self.new ≡ store_after_read self.old name.now }
+        ensures all { IfOk result (λ count. count ≡ given_of (file_or_empty self.old.files.items name.now) at (length into.old)) }
+    {
         let fails = self.bad.contains(&self.calls);
         self.calls = self.calls.saturating_add(1);
         if fails {
@@ -114,7 +127,18 @@ impl Store for NeverFailStore {
 
     ghost faults = { λ _ _. 0 };
 
-    fn read(&mut self, name: &str, at: u64, into: &mut [u8]) -> Result<usize, Failed> {
+    fn read(&mut self, name: &str, at: u64, into: &mut [u8]) -> Result<usize, Failed>
+        ensures within { IfOk result (λ count. count ≤ length into.old) }
+        ensures piece { IfOk result (GivesPiece (told_or_empty self.old.files.items) name.now at into.old into.new) }
+        ensures fault { OnErr result (Rose 0 0) }
+        ensures counts { (other : List ℕ) → 0 ≤ 0 }
+        ensures kept { told_or_empty self.new.files.items ≡ told_or_empty self.old.files.items }
+
+        // No call fails, the files stay, and all bytes are given for which there is room.
+        ensures never { IsOk result }
+        ensures files { self.new ≡ self.old }
+        ensures all { IfOk result (λ count. count ≡ given_of (file_or_empty self.old.files.items name.now) at (length into.old)) }
+    {
         match find_file(&self.files, name.as_bytes()) {
             Some(bytes) => Ok(give(bytes, at, into)),
             None => Ok(give(&[], at, into)),
@@ -155,14 +179,36 @@ impl Sink for MemSink {
 
     ghost faults = { λ s. s.failures };
 
-    fn write(&mut self, bytes: &[u8]) -> Result<usize, Failed> {
-        let fails = self.bad.contains(&self.calls);
+    fn write(&mut self, bytes: &[u8]) -> Result<usize, Failed>
+        ensures within { IfOk result (λ count. count ≤ length bytes.now) }
+        ensures progress { IfOk result (λ count. 0 < length bytes.now → 0 < count) }
+        ensures taken { IfOk result (λ count. Some self.new.bytes.items ≡ grown (take count bytes.now) (Some self.old.bytes.items)) }
+        ensures refused { OnErr result (Some self.new.bytes.items ≡ Some self.old.bytes.items) }
+        ensures fault { OnErr result (Rose self.old.failures self.new.failures) }
+        ensures counts { self.old.failures ≤ self.new.failures }
+
+        // A call fails where it is to fail, and else only where there was no room for its bytes.
+        ensures bad_call { IsTrue (is_bad self.old.bad.items self.old.calls) → IsErr result }
+        ensures no_room { OnErr result (IsTrue (is_bad self.old.bad.items self.old.calls) ⊎ (vec_capacity self.old.bytes < vec_len self.old.bytes + length bytes.now)) }
+        // All bytes are taken. Each call counts, and one that fails counts twice; the numbers of bad calls stay.
+        ensures all { IfOk result (λ count. count ≡ length bytes.now) }
+        ensures calls { self.new.calls ≡ counted self.old.calls }
+        ensures failures { self.new.failures ≡ (if is_err result then counted self.old.failures else self.old.failures) }
+        ensures bad { self.new.bad ≡ self.old.bad }
+    {
+        let refuses = self.bad.contains(&self.calls);
         self.calls = self.calls.saturating_add(1);
-        if fails || self.bytes.extend_from_slice(bytes).is_err() {
+        if refuses {
             self.failures = self.failures.saturating_add(1);
             return Err(Failed);
         }
-        Ok(bytes.len())
+        match self.bytes.extend_from_slice(bytes) {
+            Ok(()) => Ok(bytes.len()),
+            Err(_) => {
+                self.failures = self.failures.saturating_add(1);
+                Err(Failed)
+            }
+        }
     }
 }
 
@@ -177,7 +223,16 @@ impl Sink for NeverFailSink {
 
     ghost faults = { λ _. 0 };
 
-    fn write(&mut self, bytes: &[u8]) -> Result<usize, Failed> {
+    fn write(&mut self, bytes: &[u8]) -> Result<usize, Failed>
+        ensures within { IfOk result (λ count. count ≤ length bytes.now) }
+        ensures progress { IfOk result (λ count. 0 < length bytes.now → 0 < count) }
+        ensures taken { IfOk result (λ count. nothing_told ≡ grown (take count bytes.now) nothing_told) }
+        ensures refused { OnErr result (nothing_told ≡ nothing_told) }
+        ensures fault { OnErr result (Rose 0 0) }
+        ensures counts { 0 ≤ 0 }
+        // All bytes are taken.
+        ensures all { result ≡ Ok (length bytes.now) }
+    {
         Ok(bytes.len())
     }
 }

@@ -1,8 +1,8 @@
 ghost use Rattle.std.specs.Prelude.{◌≡◌, ℕ, ◌≤◌, ◌<◌, List, length, IfOk, IfSome, IsErrOf};
 ghost use Rattle.og_base.specs.Store.{Rose, Holds, HoldsMore};
-ghost use Rattle.og_base.specs.declared.read.ReadError.TheVariants.{NoMemory};
 
 use crate::{Failed, Store};
+use og_names::NoMemory;
 use std::alloc::{AllocError, Global};
 use thiserror::Error;
 
@@ -14,15 +14,7 @@ pub enum ReadError {
     #[error("the file is too large")]
     TooLarge,
     #[error("memory could not be had")]
-    NoMemory,
-}
-
-impl From<AllocError> for ReadError {
-    ghost from_gives = { λ _ error. error ≡ NoMemory };
-
-    fn from(_error: AllocError) -> ReadError {
-        ReadError::NoMemory
-    }
+    NoMemory(NoMemory),
 }
 
 /// How many bytes are asked for at once.

@@ -1,5 +1,5 @@
 //! The cells of globals (C99 6.2.5).
-#![tactic(auto, using(og_cload::proofs::Loops::loops, og_cload::proofs::Grown::grown, crate::proofs::Celled::celled))]
+#![tactic(auto, using(og_names::proofs::Loops::loops, og_cload::proofs::Grown::grown, crate::proofs::Celled::celled))]
 
 ghost use Rattle.std.specs.Prelude.{◌≡◌, IfOk, map};
 ghost use Rattle.og_ir.specs.Cells.{row, equal_parts};

@@ -1,6 +1,6 @@
 //! Copies of trees, and trees with a part replaced. `Items` lends no item for a change, so a tree whose part is replaced is a
 //! new one: this takes time and memory by the size of the global that holds the part. A whole global is replaced as it is.
-#![tactic(auto, using(og_cload::proofs::Loops::loops, crate::proofs::Celled::celled, crate::proofs::Replaced::replaced))]
+#![tactic(auto, using(og_names::proofs::Loops::loops, crate::proofs::Celled::celled, crate::proofs::Replaced::replaced))]
 
 ghost use Rattle.std.specs.Prelude.{◌≡◌, ◌<◌, IfOk, OnOk, OnErr, length, map, slice_set};
 ghost use Rattle.og_ir.specs.Cells.{row, change, change_global, put_at};

@@ -1,5 +1,5 @@
 //! The cells of a type that hold a value (X.680).
-#![tactic(auto, using(og_cload::proofs::Loops::loops, og_cload::proofs::Grown::grown, crate::proofs::Celled::celled, crate::proofs::Writing::writing))]
+#![tactic(auto, using(og_names::proofs::Loops::loops, og_cload::proofs::Grown::grown, crate::proofs::Celled::celled, crate::proofs::Writing::writing))]
 
 ghost use Rattle.std.specs.Prelude.{◌≡◌, ◌++◌, ◌∷◌, pos, map, slice_get, take, drop, ℕ, Some, IfOk, OnOk};
 ghost use Rattle.std.specs.Option.{option_copied, option_map};

@@ -10,11 +10,11 @@ use Rattle.og_ir.specs.Cells.{Cells, Cell, Empty, Both, change_global, put_at}
 use Rattle.og_ir.specs.Arithmetic.{Trouble}
 use Rattle.og_ir.specs.Steps.{Frame, Config, Running, Over, Broken, Ran, with_value}
 use Rattle.og_ir.specs.FlatSteps.{Spot, put}
-use Rattle.og_ir.proofs.ValueCells.{left_of, right_of}
 use Rattle.og_csubset.specs.Paced.{Pace}
 use Rattle.og_cemit.specs.Emitted.{is_marked, targets}
 use Rattle.og_cemit.proofs.Values.{is_number_cell, HoldNumbers}
 use Rattle.og_cemit.proofs.Bodies.{width_of, before}
+use Rattle.og_names.proofs.Truths.{both_first as left_of, both_second as right_of}
 
 -- ---- configurations
 

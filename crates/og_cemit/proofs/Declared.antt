@@ -14,7 +14,8 @@ use Rattle.og_csubset.specs.Fair.{Fair}
 use Rattle.og_cemit.specs.Emitted.{is_marked, used, event_if, events_from, program_of, AreShort}
 use Rattle.og_cemit.proofs.Names.{get_map, same_bytes, place_at_self, is_in_at, is_in-append}
 use Rattle.og_cemit.proofs.Parts.{function_names_are, flat_event_names, functions_apart}
-use Rattle.og_cemit.proofs.Tests.{false_by, or_second}
+use Rattle.og_cemit.proofs.Tests.{false_by}
+use Rattle.og_names.proofs.Truths.{either_second as or_second}
 
 pub events_sub : (marks : List Bool) (k : ℕ) (names : List Word) (name : List ℕ)
     → is_in name (map (λ (e : Word). e.bytes) (events_from marks k names)) ≡ true → is_in name (map (λ (e : Word). e.bytes) names) ≡ true

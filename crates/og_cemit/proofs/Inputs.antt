@@ -19,7 +19,6 @@ use Rattle.og_ir.specs.declared.SlotSort.TheVariants as slot_sort
 use Rattle.og_ir.specs.CellsOnly.{is_cell, UsesCellsOnly}
 use Rattle.og_ir.specs.Cells.{◌>>=◌, Cells, cells_by}
 use Rattle.og_ir.specs.Reading.{write_sort, write_within, blank_within, cells_of}
-use Rattle.og_ir.proofs.ValueCells.{left_of, right_of}
 use Rattle.og_csubset.specs.Kinds.{place_in}
 use Rattle.og_csubset.specs.Interface as interface
 use Rattle.og_csubset.specs.Interface.{Shape, Typed, Field, incoming_from, incoming, inputs_of, control_fields, variable_fields, timer_fields, fields_of}
@@ -29,6 +28,7 @@ use Rattle.og_csubset.specs.Fair.{Fair, Held, One, held_by, held_as, held_in_slo
 use Rattle.og_csubset.proofs.Steady.{all_at}
 use Rattle.og_cemit.proofs.Values.{is_number_cell, HoldNumbers}
 use Rattle.og_cemit.proofs.Configurations.{put_holds}
+use Rattle.og_names.proofs.Truths.{both_first as left_of, both_second as right_of}
 
 -- ---- a field of the interface is one number
 

@@ -8,7 +8,6 @@ use Rattle.std.proofs.lemmas.Fmt.{decimal_nonempty}
 use Rattle.og_types.specs.Table.{is_empty}
 use Rattle.og_names.specs.declared.Word.{Word}
 use Rattle.og_ir.specs.declared.FlatFn.{FlatFn}
-use Rattle.og_ir.proofs.ValueCells.{left_of, right_of}
 use Rattle.og_csubset.specs.Tokens.{is_letter, is_digit, is_word_byte, is_word, reserved_words, is_name}
 use Rattle.og_csubset.specs.Fair.{is_label, is_labelled}
 use Rattle.og_csubset.proofs.Steady.{all_at}
@@ -16,7 +15,7 @@ use Rattle.og_cemit.specs.Emitted.{hint, label_text}
 use Rattle.og_cemit.proofs.Names.{other_bytes}
 use Rattle.og_cemit.proofs.Labels.{decimal_digits}
 use Rattle.og_cemit.proofs.LoadNames.{all_append}
-use Rattle.og_cemit.proofs.Tests.{both, neither, or_first, or_second}
+use Rattle.og_names.proofs.Truths.{both_first as left_of, both_second as right_of, both_true as both, either_first as or_first, either_second as or_second, neither_true as neither}
 
 -- ---- words
 

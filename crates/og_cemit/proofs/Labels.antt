@@ -6,10 +6,10 @@ use Rattle.std.specs.List.{list_all}
 use Rattle.std.proofs.lemmas.Bool.{lt-ltb}
 use Rattle.std.proofs.lemmas.Bool.Decides.{nat_tests}
 use Rattle.std.proofs.lemmas.Fmt.{decimal_injective}
-use Rattle.og_ir.proofs.ValueCells.{left_of, right_of}
 use Rattle.og_names.specs.declared.Word.{Word}
 use Rattle.og_csubset.specs.Tokens.{is_digit}
 use Rattle.og_cemit.specs.Emitted.{hint, label_text}
+use Rattle.og_names.proofs.Truths.{both_first as left_of, both_second as right_of}
 
 -- what stands behind the last `_`
 abbrev after_last : List ℕ → List ℕ → List ℕ

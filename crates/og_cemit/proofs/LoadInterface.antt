@@ -14,7 +14,6 @@ use Rattle.og_model.specs.declared.EventId.{EventId}
 use Rattle.og_ir.specs.declared.Ir.{Ir}
 use Rattle.og_ir.specs.CellsOnly.{UsesCellsOnly}
 use Rattle.og_ir.specs.Cells.{◌>>=◌}
-use Rattle.og_ir.proofs.ValueCells.{left_of, right_of}
 use Rattle.og_csubset.specs.declared.CType.{CType}
 use Rattle.og_csubset.specs.declared.CType.TheVariants.{Int64}
 use Rattle.og_csubset.specs.Kinds.{place_in, is_in, event_names}
@@ -29,7 +28,8 @@ use Rattle.og_cemit.proofs.Names.{get_map, is_in_at, is_in-append}
 use Rattle.og_cemit.proofs.Parts.{function_names_are, flat_event_names, functions_apart, slots_apart, kind_of_slots}
 use Rattle.og_cemit.proofs.Inputs.{field_number}
 use Rattle.og_cemit.proofs.LoadNames.{all_by, event_is_flat, all_names_are, free_name, declared_shown}
-use Rattle.og_cemit.proofs.Tests.{false_by, not_true, both, neither, or_first, or_second, either}
+use Rattle.og_cemit.proofs.Tests.{false_by}
+use Rattle.og_names.proofs.Truths.{both_first as left_of, both_second as right_of, both_true as both, either_first as or_first, either_second as or_second, either_true as either, neither_true as neither, not_true}
 
 -- ---- fields
 

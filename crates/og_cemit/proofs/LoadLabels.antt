@@ -14,7 +14,6 @@ use Rattle.og_ir.specs.declared.Instr.{Instr}
 use Rattle.og_ir.specs.declared.Instr.TheVariants as instr
 use Rattle.og_ir.specs.declared.Case.{Case}
 use Rattle.og_ir.specs.Arithmetic.{in_64_bits, is_same}
-use Rattle.og_ir.proofs.ValueCells.{left_of, right_of}
 use Rattle.og_csubset.specs.declared.CStmt.{CStmt}
 use Rattle.og_csubset.specs.declared.CStmt.TheVariants.{Assign, IfGoto, Goto, Label, Switch, Call, Return}
 use Rattle.og_csubset.specs.declared.CCase.{CCase}
@@ -33,7 +32,7 @@ use Rattle.og_cemit.proofs.Bodies.{before, label_stands}
 use Rattle.og_cemit.proofs.Declared.{event_declared, short_at}
 use Rattle.og_cemit.proofs.LoadNames.{all_each}
 use Rattle.og_cemit.proofs.LoadTypes.{body_all, functions_all}
-use Rattle.og_cemit.proofs.Tests.{both, neither, or_first, or_second}
+use Rattle.og_names.proofs.Truths.{both_first as left_of, both_second as right_of, both_true as both, either_first as or_first, either_second as or_second, neither_true as neither}
 
 -- ---- labels differ
 

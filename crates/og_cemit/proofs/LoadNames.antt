@@ -11,18 +11,17 @@ use Rattle.og_ir.specs.declared.Ir.{Ir}
 use Rattle.og_ir.specs.declared.FlatFn.{FlatFn}
 use Rattle.og_ir.specs.declared.Instr.{Instr}
 use Rattle.og_ir.specs.declared.Instr.TheVariants as instr
-use Rattle.og_ir.proofs.ValueCells.{left_of, right_of}
 use Rattle.og_csubset.specs.Kinds.{is_in, event_names, function_names}
 use Rattle.og_csubset.specs.Loading.{has_twice, all_names, breaks_K3}
 use Rattle.og_csubset.specs.FlatRun.{slot_names, flat_function_names}
 use Rattle.og_csubset.specs.Fair.{names_of, shows_event, is_shown, Fair}
-use Rattle.og_csubset.proofs.ExtensionRuns.{or_left, or_right}
 use Rattle.og_cemit.specs.Emitted.{is_marked, shows, used, event_if, events_from, program_of}
 use Rattle.og_cemit.proofs.Names.{same_bytes, equal_bytes, is_in_at, is_in-append, Differ}
 use Rattle.og_cemit.proofs.Marking.{Among, used_shown}
 use Rattle.og_cemit.proofs.Parts.{global_names_are, function_names_are, flat_event_names, functions_apart, slots_apart}
 use Rattle.og_cemit.proofs.Declared.{events_sub}
-use Rattle.og_cemit.proofs.Tests.{false_by, both, neither, or_first, or_second, either}
+use Rattle.og_cemit.proofs.Tests.{false_by}
+use Rattle.og_names.proofs.Truths.{both_first as left_of, both_second as right_of, both_true as both, either_first as or_first, either_second as or_second, either_true as either, neither_first as or_left, neither_second as or_right, neither_true as neither}
 
 -- ---- lists
 

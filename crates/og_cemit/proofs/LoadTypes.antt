@@ -20,7 +20,6 @@ use Rattle.og_ir.specs.CellsOnly.{is_cell, is_plain_by, is_plain_within, is_plai
 use Rattle.og_ir.specs.Cells as cells
 use Rattle.og_ir.specs.Cells.{Cells, count}
 use Rattle.og_ir.specs.FlatSteps.{blank_slot, first_slots}
-use Rattle.og_ir.proofs.ValueCells.{left_of, right_of}
 use Rattle.og_csubset.specs.declared.CGlobal.{CGlobal}
 use Rattle.og_csubset.specs.declared.CType.TheVariants.{Int64}
 use Rattle.og_csubset.specs.declared.CFunction.{CFunction}
@@ -36,11 +35,12 @@ use Rattle.og_csubset.specs.Fair.{held_at, is_one, number_by, is_number, is_righ
 use Rattle.og_csubset.proofs.Depth.{is_number_is}
 use Rattle.og_csubset.proofs.FairParts.{number_is}
 use Rattle.og_csubset.proofs.Steady.{all_at}
-use Rattle.og_cemit.specs.Emitted.{place_at, operator_of, number_of, calls_function, calls_event, statement_at, is_marked, label_at, label_before, statements_at, statements_from, targets, function_of, global_of, program_of}
+use Rattle.og_csubset.specs.FlatText.{operator_of}
+use Rattle.og_cemit.specs.Emitted.{place_at, number_of, calls_function, calls_event, statement_at, is_marked, label_at, label_before, statements_at, statements_from, targets, function_of, global_of, program_of}
 use Rattle.og_cemit.proofs.Parts.{slot_kind, one_slot, joined_slots, right_at}
 use Rattle.og_cemit.proofs.Values.{expression_of, number_of_is}
 use Rattle.og_cemit.proofs.LoadNames.{all_append}
-use Rattle.og_cemit.proofs.Tests.{both}
+use Rattle.og_names.proofs.Truths.{both_first as left_of, both_second as right_of, both_true as both}
 
 -- ---- statements and functions, one by one
 

@@ -6,8 +6,8 @@ use Rattle.std.proofs.lemmas.Option.{none-some}
 use Rattle.og_ir.specs.declared.Ir.{Ir}
 use Rattle.og_ir.specs.declared.FlatFn.{FlatFn}
 use Rattle.og_ir.specs.declared.Instr.{Instr}
-use Rattle.og_ir.proofs.ValueRead.{same_value}
 use Rattle.og_cemit.specs.Emitted.{is_marked, marked, all_marked, jumps, targets, shows, used}
+use Rattle.og_names.proofs.Truths.{same_value}
 
 -- the number stands among the numbers
 abbrev pub Among : ℕ → List ℕ → Type 0

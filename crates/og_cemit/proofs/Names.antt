@@ -6,11 +6,10 @@ use Rattle.std.proofs.lemmas.Bool.{false≢true}
 use Rattle.std.proofs.lemmas.Option.{none-some}
 use Rattle.std.proofs.lemmas.Slice.Eq.{bytes_eq-Decides}
 use Rattle.og_ir.specs.Cells.{◌>>=◌}
-use Rattle.og_ir.proofs.ValueRead.{same_value}
 use Rattle.og_csubset.specs.Kinds.{place_in, is_in}
 use Rattle.og_csubset.specs.Loading.{has_twice}
-use Rattle.og_csubset.proofs.ExtensionRuns.{or_left, or_right}
-use Rattle.og_cemit.proofs.Tests.{false_by, or_second}
+use Rattle.og_cemit.proofs.Tests.{false_by}
+use Rattle.og_names.proofs.Truths.{either_second as or_second, neither_first as or_left, neither_second as or_right, same_value}
 
 pub get_map : {A B : Type 0} (f : A → B) (xs : List A) (k : ℕ) → slice_get (map f xs) k ≡ option_map f (slice_get xs k)
 get_map f [] k = refl

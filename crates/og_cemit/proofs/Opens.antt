@@ -10,7 +10,8 @@ use Rattle.og_ir.specs.declared.FlatOp.{FlatOp}
 use Rattle.og_csubset.specs.declared.CPlace.{CPlace}
 use Rattle.og_csubset.specs.declared.CExpr.{CExpr}
 use Rattle.og_csubset.specs.declared.CExpr as c
-use Rattle.og_cemit.specs.Emitted.{place_at, operator_of, number_layer, step_layer, place_layer, number_of}
+use Rattle.og_csubset.specs.FlatText.{operator_of}
+use Rattle.og_cemit.specs.Emitted.{place_at, number_layer, step_layer, place_layer, number_of}
 
 pub number-Number : (ir : Ir) (z : ℤ) → number_of ir (Number z) ≡ c.Number z
 unfolding number_of

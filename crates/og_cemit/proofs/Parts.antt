@@ -16,7 +16,6 @@ use Rattle.og_ir.specs.declared.Slot.{Slot}
 use Rattle.og_ir.specs.declared.Step2.{Step2}
 use Rattle.og_ir.specs.CellsOnly.{is_whole}
 use Rattle.og_ir.specs.Cells.{◌>>=◌}
-use Rattle.og_ir.proofs.ValueCells.{left_of, right_of}
 use Rattle.og_csubset.specs.declared.CGlobal.{CGlobal}
 use Rattle.og_csubset.specs.declared.CType.TheVariants.{Int64}
 use Rattle.og_csubset.specs.declared.CFunction.{CFunction}
@@ -24,9 +23,10 @@ use Rattle.og_csubset.specs.Kinds.{Kind, place_in, is_in, global_names, function
 use Rattle.og_csubset.specs.Loading.{has_twice}
 use Rattle.og_csubset.specs.FlatRun.{slot_names, flat_function_names}
 use Rattle.og_csubset.specs.Fair.{Held, held_in_slot, held_after, held_at, is_one, joins, is_number, is_right, are_right, names_of, Fair}
-use Rattle.og_cemit.specs.Emitted.{slot_word, global_of, function_of, program_of}
+use Rattle.og_csubset.specs.FlatText.{slot_word}
+use Rattle.og_cemit.specs.Emitted.{global_of, function_of, program_of}
 use Rattle.og_cemit.proofs.Names.{get_map, there, within, place_at_self, is_in_at, Differ, differ_parts}
-use Rattle.og_cemit.proofs.Tests.{not_true}
+use Rattle.og_names.proofs.Truths.{both_first as left_of, both_second as right_of, not_true}
 
 -- ---- the names of the program are those of the code
 

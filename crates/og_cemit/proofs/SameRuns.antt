@@ -22,7 +22,6 @@ use Rattle.og_ir.specs.Cells.{◌>>=◌, Cells, Cell}
 use Rattle.og_ir.specs.Arithmetic.{in_64_bits}
 use Rattle.og_ir.specs.Steps.{Config, Running, Over, Broken, Ran, quiet, joined, and_then, exec}
 use Rattle.og_ir.specs.FlatSteps.{flat_step, blank_slot, first_slots}
-use Rattle.og_ir.proofs.ValueCells.{left_of, right_of}
 use Rattle.og_csubset.specs.declared.CGlobal.{CGlobal}
 use Rattle.og_csubset.specs.declared.CFunction.{CFunction}
 use Rattle.og_csubset.specs.declared.CStmt.{CStmt}
@@ -43,6 +42,7 @@ use Rattle.og_cemit.proofs.Bodies.{width, width_of, before, before_none, before_
 use Rattle.og_cemit.proofs.Configurations.{before_in, pace_in, pace_of, begun_config, IsGood, Same}
 use Rattle.og_cemit.proofs.SameSteps.{step_last, step_label}
 use Rattle.og_cemit.proofs.Inputs.{signal_holds}
+use Rattle.og_names.proofs.Truths.{both_first as left_of, both_second as right_of}
 
 names_length : (functions : List FlatFn) → length (map (λ (g : FlatFn). g.name.bytes) functions) ≡ length functions
 names_length [] = refl

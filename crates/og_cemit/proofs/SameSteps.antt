@@ -24,7 +24,6 @@ use Rattle.og_ir.specs.Steps.{Frame, Config, Running, Over, Broken, Ran, quiet, 
 use Rattle.og_ir.specs.FlatSteps as f
 use Rattle.og_ir.specs.FlatSteps.{Spot, put, flat_step}
 use Rattle.og_ir.proofs.Depth as flat_depth
-use Rattle.og_ir.proofs.ValueCells.{left_of, right_of}
 use Rattle.og_csubset.specs.declared.CFunction.{CFunction}
 use Rattle.og_csubset.specs.declared.CStmt.{CStmt}
 use Rattle.og_csubset.specs.declared.CStmt.TheVariants.{Assign}
@@ -40,7 +39,8 @@ use Rattle.og_csubset.specs.Step.{cstep}
 use Rattle.og_csubset.specs.Fair.{Fair, held_at, is_one, number_by, is_number, has_equal_cases, is_right}
 use Rattle.og_csubset.proofs.FairParts.{number_is}
 use Rattle.og_csubset.proofs.Steady.{all_at}
-use Rattle.og_cemit.specs.Emitted.{label_text, place_at, operator_of, number_of, case_at, calls_function, calls_event, statement_at, is_marked, targets, used, body_of, function_of, program_of, AreShort}
+use Rattle.og_csubset.specs.FlatText.{operator_of}
+use Rattle.og_cemit.specs.Emitted.{label_text, place_at, number_of, case_at, calls_function, calls_event, statement_at, is_marked, targets, used, body_of, function_of, program_of, AreShort}
 use Rattle.og_cemit.proofs.Names.{get_map, there, within}
 use Rattle.og_cemit.proofs.Marking.{Among, target_marked, used_marked}
 use Rattle.og_cemit.proofs.Parts.{global_names_are, one_slot, joined_slots, right_at}
@@ -48,6 +48,7 @@ use Rattle.og_cemit.proofs.Values.{is_number_cell, HoldNumbers, place_spot, slot
 use Rattle.og_cemit.proofs.Bodies.{width_of, before, before_none, before_next, first_at, first_stands, second_stands, label_stands}
 use Rattle.og_cemit.proofs.Configurations.{before_in, pace_in, pace_of, begun_frame, begun_config, Waiting, IsGood, Same, same_by, bound, put_holds}
 use Rattle.og_cemit.proofs.Declared.{event_declared, short_at, not_event, function_placed}
+use Rattle.og_names.proofs.Truths.{both_first as left_of, both_second as right_of}
 
 -- ---- cases
 

@@ -20,7 +20,6 @@ use Rattle.og_ir.specs.FlatSteps as f
 use Rattle.og_ir.specs.FlatSteps.{Spot}
 use Rattle.og_ir.proofs.Depth as flat_depth
 use Rattle.og_ir.proofs.Depth.{bind_same}
-use Rattle.og_ir.proofs.ValueCells.{left_of, right_of}
 use Rattle.og_csubset.specs.declared.CExpr.{CExpr, out-CExpr}
 use Rattle.og_csubset.specs.declared.CExpr as c
 use Rattle.og_csubset.specs.declared.CExpr.TheViews.{outs-Number, outs-Read, outs-Op}
@@ -29,8 +28,10 @@ use Rattle.og_csubset.specs.Step as s
 use Rattle.og_csubset.specs.Fair.{Fair, number_by, is_number}
 use Rattle.og_csubset.proofs.Depth as c_depth
 use Rattle.og_csubset.proofs.FairParts.{number_is}
-use Rattle.og_cemit.specs.Emitted.{slot_word, place_at, operator_of, relation_of, number_layer, step_layer, place_layer, number_of, test_of, program_of}
+use Rattle.og_csubset.specs.FlatText.{slot_word, operator_of, relation_of}
+use Rattle.og_cemit.specs.Emitted.{place_at, number_layer, step_layer, place_layer, number_of, test_of, program_of}
 use Rattle.og_cemit.proofs.Parts.{slot_placed, slot_kind, path_is_empty, one_slot}
+use Rattle.og_names.proofs.Truths.{both_first as left_of, both_second as right_of}
 
 -- ---- slots that hold numbers
 

@@ -14,10 +14,6 @@ use Rattle.og_ir.specs.declared.Slot.{Slot-F}
 use Rattle.og_ir.specs.declared.Step2.{Step2-F}
 use Rattle.og_ir.specs.declared.Flat.{Flat, Flat-F, fold-Flat}
 use Rattle.og_ir.specs.declared.Flat.TheOpen as flat
-use Rattle.og_ir.specs.declared.FlatOp.{FlatOp}
-use Rattle.og_ir.specs.declared.FlatOp.TheVariants as op
-use Rattle.og_ir.specs.declared.FlatRel.{FlatRel}
-use Rattle.og_ir.specs.declared.FlatRel.TheVariants as rel
 use Rattle.og_ir.specs.declared.Test.{Test}
 use Rattle.og_ir.specs.declared.Case.{Case}
 use Rattle.og_csubset.specs.declared.CProgram.{CProgram}
@@ -30,17 +26,9 @@ use Rattle.og_csubset.specs.declared.CCase.{CCase}
 use Rattle.og_csubset.specs.declared.CPlace.{CPlace}
 use Rattle.og_csubset.specs.declared.CExpr.{CExpr, Number, Read, Op}
 use Rattle.og_csubset.specs.declared.CTest.{CTest}
-use Rattle.og_csubset.specs.declared.COp.{COp}
-use Rattle.og_csubset.specs.declared.COp.TheVariants as c_op
-use Rattle.og_csubset.specs.declared.CRel.{CRel}
-use Rattle.og_csubset.specs.declared.CRel.TheVariants as c_rel
+use Rattle.og_csubset.specs.FlatText.{slot_word, operator_of, relation_of}
 
 -- ---- names
-
--- the name of a slot
-abbrev pub slot_word : Option SlotDef → Word
-slot_word None = record { bytes = [] }
-slot_word (Some slot) = slot.name
 
 -- the word that the code has for a place, or `at`
 abbrev pub hint : Option Word → List ℕ
@@ -57,21 +45,6 @@ label_at f place = record { bytes = label_text f.labels place }
 
 abbrev pub place_at : Ir → ℕ → CPlace
 place_at ir base = record { name = slot_word (slice_get ir.slots base); path = [] }
-
-abbrev pub operator_of : FlatOp → COp
-operator_of op.Add = c_op.Add
-operator_of op.Sub = c_op.Sub
-operator_of op.Mul = c_op.Mul
-operator_of op.Div = c_op.Div
-operator_of op.Rem = c_op.Rem
-
-abbrev pub relation_of : FlatRel → CRel
-relation_of rel.Eq = c_rel.Eq
-relation_of rel.Ne = c_rel.Ne
-relation_of rel.Lt = c_rel.Lt
-relation_of rel.Le = c_rel.Le
-relation_of rel.Gt = c_rel.Gt
-relation_of rel.Ge = c_rel.Ge
 
 abbrev pub number_layer : Flat-F CExpr ⊤ CPlace → CExpr
 number_layer (flat.Number n) = Number n

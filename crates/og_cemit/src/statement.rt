@@ -1,6 +1,7 @@
 //! Statements of instructions.
 ghost use Rattle.std.specs.Prelude.{◌≡◌, ◌++◌, [], ◌∷◌, IfOk, OnOk, map, slice_get};
-ghost use Rattle.og_cemit.specs.Emitted.{slot_word, label_at, hint, place_at, operator_of as operator_at, relation_of as relation_at, number_of as number_at, test_of as test_at, case_at, statement_at};
+ghost use Rattle.og_csubset.specs.FlatText.{slot_word, operator_of as operator_at, relation_of as relation_at};
+ghost use Rattle.og_cemit.specs.Emitted.{label_at, hint, place_at, number_of as number_at, test_of as test_at, case_at, statement_at};
 
 use itoa::Buffer;
 use og_csubset::{CCase, CExpr, COp, CPlace, CRel, CStmt, CTest};

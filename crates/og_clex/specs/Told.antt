@@ -6,7 +6,7 @@ use Rattle.og_csubset.specs.Spelling.{IsProgram}
 use Rattle.og_csubset.specs.Nesting.{nesting}
 use Rattle.og_csubset.specs.Refusals.{IsBad, IsTooDeep, place_behind}
 use Rattle.og_clex.specs.declared.CReadError.{CReadError}
-use Rattle.og_clex.specs.declared.CReadError.TheVariants.{Bad, TooDeep}
+use Rattle.og_clex.specs.declared.CReadError.TheVariants.{Bad, TooDeep, NoMemory}
 
 -- an error of rule K1 stands where the text is bad
 abbrev pub TellsBad : List ℕ → CReadError → Type 0
@@ -17,6 +17,12 @@ TellsBad text _ = ⊤
 abbrev pub TellsDeep : List ℕ → CReadError → Type 0
 TellsDeep text (TooDeep place) = (before : List ℕ) × IsTooDeep 256 text before × (place ≡ place_behind before)
 TellsDeep text _ = ⊤
+
+-- memory could not be had
+abbrev pub IsOutOfMemory : CReadError → Type 0
+IsOutOfMemory (Bad place) = ⊥
+IsOutOfMemory (TooDeep place) = ⊥
+IsOutOfMemory (NoMemory met) = ⊤
 
 -- the tokens are a program
 abbrev pub IsSomeProgram : List Token → Type 0

@@ -79,10 +79,8 @@ fn word_token(alloc: Global, word: &[u8]) -> Result<Option<Token>, NoMemory>
     if is_reserved(word) {
         return Ok(keyword_of(word));
     }
-    match Items::from_slice(alloc, word) {
-        Ok(bytes) => Ok(Some(Token::Name(Word { bytes }))),
-        Err(_) => Err(NoMemory),
-    }
+    let bytes = Items::from_slice(alloc, word)?;
+    Ok(Some(Token::Name(Word { bytes })))
 }
 
 /// The words that are no names: those keywords of C99 that begin with a letter, and the two words of <stdint.h>.

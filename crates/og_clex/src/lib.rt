@@ -10,6 +10,7 @@ mod token;
 
 pub use machine::{is_keyword, is_mark};
 use og_base::Place;
+use og_names::NoMemory;
 pub use scan::tokens_of;
 use std::alloc::AllocError;
 use thiserror::Error;
@@ -25,27 +26,26 @@ pub enum CReadError {
     #[error("the text nests too deep")]
     TooDeep(Place),
     #[error("memory could not be had")]
-    NoMemory,
+    NoMemory(NoMemory),
 }
 
 impl From<AllocError> for CReadError {
-    ghost use Rattle.std.specs.Prelude.{◌≡◌};
-    ghost use Rattle.og_clex.specs.declared.CReadError.TheVariants.{NoMemory as OutOfMemory};
+    ghost use Rattle.og_clex.specs.Told.{IsOutOfMemory};
 
-    ghost from_gives = { λ _ error. error ≡ OutOfMemory };
+    ghost from_gives = { λ _ error. IsOutOfMemory error };
 
-    fn from(_error: AllocError) -> CReadError {
-        CReadError::NoMemory
+    fn from(error: AllocError) -> CReadError {
+        CReadError::NoMemory(NoMemory::from(error))
     }
 }
 
-impl From<og_names::NoMemory> for CReadError {
+impl From<NoMemory> for CReadError {
     ghost use Rattle.std.specs.Prelude.{◌≡◌};
     ghost use Rattle.og_clex.specs.declared.CReadError.TheVariants.{NoMemory as OutOfMemory};
 
-    ghost from_gives = { λ _ error. error ≡ OutOfMemory };
+    ghost from_gives = { λ met error. error ≡ OutOfMemory met };
 
-    fn from(_error: og_names::NoMemory) -> CReadError {
-        CReadError::NoMemory
+    fn from(met: NoMemory) -> CReadError {
+        CReadError::NoMemory(met)
     }
 }

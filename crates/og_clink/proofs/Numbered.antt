@@ -14,7 +14,7 @@ use Rattle.og_csubset.specs.declared.COp.{COp}
 use Rattle.og_csubset.specs.Kinds.{Kind, element_of, global_kind}
 use Rattle.og_csubset.specs.Step.{is_label, label_in}
 use Rattle.og_ir.specs.Cells.{◌>>=◌}
-use Rattle.og_cload.proofs.Loops.{Left}
+use Rattle.og_names.proofs.Loops.{Left}
 use Rattle.og_cload.proofs.Grown.{grown_one, none}
 use Rattle.og_clink.specs.declared.code.Expression as e
 use Rattle.og_clink.specs.declared.code.Expression.{Expression}

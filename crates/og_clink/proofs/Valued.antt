@@ -9,7 +9,7 @@ use Rattle.og_ccells.specs.declared.cells.Tree.{Tree, Row}
 use Rattle.og_ccells.specs.Trees.{cells_of}
 use Rattle.og_ccells.proofs.Celled.{cells_Cell, cells_Row}
 use Rattle.og_cload.proofs.Grown.{grown_one}
-use Rattle.og_cload.proofs.Loops.{Left}
+use Rattle.og_names.proofs.Loops.{Left}
 use Rattle.og_clink.specs.declared.code.Expression.{Expression, Literal, Read, Minus, Op, Choice, fold-roll-Expression}
 use Rattle.og_clink.specs.declared.code.Expression.TheVariants.{rolls-Literal, rolls-Read, rolls-Minus, rolls-Op, rolls-Choice}
 use Rattle.og_clink.specs.declared.code.Expression.TheOpen as open'
@@ -50,11 +50,11 @@ bound r f x e = ap (λ s. s >>= f) e
 
 pub stopped : {A B : Type 0} (h : Halt) (r : Result A Trouble) (f : A → Result B Trouble) → Halts h r → Halts h (r >>= f)
 stopped (Stuck rule) r f e = ap (λ s. s >>= f) e
-stopped NoMemory r f e = tt
+stopped (NoMemory met) r f e = tt
 
 pub along : {A : Type 0} (h : Halt) (r s : Result A Trouble) → r ≡ s → Halts h s → Halts h r
 along (Stuck rule) r s e halts = e ∙ halts
-along NoMemory r s e halts = tt
+along (NoMemory met) r s e halts = tt
 
 -- ---- one layer of each tree
 

@@ -7,7 +7,12 @@ use Rattle.og_clink.specs.Numbers.{trouble_of}
 
 abbrev pub Halts : {A : Type 0} → Halt → Result A Trouble → Type 0
 Halts (Stuck rule) r = r ≡ Err (trouble_of rule)
-Halts NoMemory r = ⊤
+Halts (NoMemory met) r = ⊤
+
+-- memory could not be had
+abbrev pub IsOutOfMemory : Halt → Type 0
+IsOutOfMemory (Stuck rule) = ⊥
+IsOutOfMemory (NoMemory met) = ⊤
 
 abbrev pub Tells : {A B : Type 0} → (A → B) → Result A Halt → Result B Trouble → Type 0
 Tells view (Ok x) r = r ≡ Ok (view x)

@@ -1,5 +1,5 @@
 //! What a statement does (C99 6.8). Nothing is changed yet.
-#![tactic(auto, using(og_cload::proofs::Loops::loops, og_ccells::proofs::Celled::celled, crate::proofs::Done::done))]
+#![tactic(auto, using(og_names::proofs::Loops::loops, og_ccells::proofs::Celled::celled, crate::proofs::Done::done))]
 
 ghost use Rattle.std.specs.Prelude.{◌≡◌, map};
 ghost use Rattle.og_ccells.specs.Trees.{cells_of};

@@ -1,5 +1,5 @@
 //! A program with its names resolved.
-#![tactic(auto, using(og_cload::proofs::Loops::loops, og_cload::proofs::Grown::grown), unfolding(crate::specs::Links::linked_of))]
+#![tactic(auto, using(og_names::proofs::Loops::loops, og_cload::proofs::Grown::grown), unfolding(crate::specs::Links::linked_of))]
 
 ghost use Rattle.std.specs.Prelude.{◌≡◌, IfOk};
 ghost use Rattle.og_clink.specs.Links.{linked_of};

@@ -9,7 +9,7 @@ use std::alloc::AllocFailed;
 #[derive(Clone, Copy, Debug, PartialEq, Eq)]
 pub enum Halt {
     Stuck(StuckRule),
-    NoMemory,
+    NoMemory(NoMemory),
 }
 
 impl From<StuckRule> for Halt {
@@ -25,19 +25,19 @@ impl From<StuckRule> for Halt {
 impl From<NoMemory> for Halt {
     ghost use Rattle.og_clink.specs.declared.memory.Halt.TheVariants as halt;
 
-    ghost from_gives = { λ _ error. error ≡ halt.NoMemory };
+    ghost from_gives = { λ met error. error ≡ halt.NoMemory met };
 
-    fn from(_error: NoMemory) -> Halt {
-        Halt::NoMemory
+    fn from(met: NoMemory) -> Halt {
+        Halt::NoMemory(met)
     }
 }
 
 impl<T: Drop> From<AllocFailed<T>> for Halt {
-    ghost use Rattle.og_clink.specs.declared.memory.Halt.TheVariants as halt;
+    ghost use Rattle.og_clink.specs.Halts.{IsOutOfMemory};
 
-    ghost from_gives = { λ _ error. error ≡ halt.NoMemory };
+    ghost from_gives = { λ _ error. IsOutOfMemory error };
 
-    fn from(_error: AllocFailed<T>) -> Halt {
-        Halt::NoMemory
+    fn from(error: AllocFailed<T>) -> Halt {
+        Halt::NoMemory(NoMemory::from(error))
     }
 }

@@ -1,5 +1,5 @@
 //! The numbers of names in expressions and statements. Names are looked up once, at load.
-#![tactic(auto, using(og_cload::proofs::Loops::loops, og_cload::proofs::Places::places, og_cload::proofs::Grown::grown, crate::proofs::Numbered::numbered))]
+#![tactic(auto, using(og_names::proofs::Loops::loops, og_cload::proofs::Places::places, og_cload::proofs::Grown::grown, crate::proofs::Numbered::numbered))]
 
 ghost use Rattle.std.specs.Prelude.{◌≡◌, IfOk, map};
 ghost use Rattle.std.specs.Option.{option_copied, option_map};

@@ -98,7 +98,7 @@ fn carry(
             *position = Position::Stuck(rule);
             Ok(None)
         }
-        Err(Halt::NoMemory) => Err(NoMemory),
+        Err(Halt::NoMemory(met)) => Err(met),
     }
 }
 

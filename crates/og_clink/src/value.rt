@@ -1,5 +1,5 @@
 //! The values of expressions (C99 6.5). Operands are computed from left to right.
-#![tactic(auto, using(og_cload::proofs::Loops::loops, crate::proofs::Valued::valued))]
+#![tactic(auto, using(og_names::proofs::Loops::loops, crate::proofs::Valued::valued))]
 
 ghost use Rattle.std.specs.Prelude.{◌≡◌, map, Some};
 ghost use Rattle.std.specs.Option.{option_copied, option_map};

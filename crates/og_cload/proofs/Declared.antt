@@ -15,7 +15,7 @@ use Rattle.og_csubset.specs.declared.CProgram.{CProgram}
 use Rattle.og_csubset.specs.Kinds.{event_names}
 use Rattle.og_csubset.specs.Loading.{all_names, has_field, has_event}
 use Rattle.og_cload.specs.Fields.{free_or_has}
-use Rattle.og_cload.proofs.Loops.{Left, left_more, left_stop, left_all}
+use Rattle.og_names.proofs.Loops.{Left, left_more, left_stop, left_all}
 
 pub number_at : (k n : ℕ) → k < n → k ≡ get_or (numbers_below n) k k
 number_at k n h = let e = get_or-range_with_len 0 n k k h in omega (arith, e)

@@ -13,7 +13,7 @@ use Rattle.og_csubset.specs.Kinds.{is_in}
 use Rattle.og_csubset.specs.Loading.{is_known, structs_known, calls_known, functions_known}
 use Rattle.std.specs.Borrow.{Bor}
 use Rattle.og_cload.specs.Names.{names_in}
-use Rattle.og_cload.proofs.Loops.{Left}
+use Rattle.og_names.proofs.Loops.{Left}
 
 or_regroup : (a b c : Bool) → (a || (b || c)) ≡ (b || (a || c))
 or_regroup true true c = refl

@@ -8,7 +8,7 @@ use Rattle.og_csubset.specs.declared.CCase.{CCase}
 use Rattle.og_csubset.specs.Kinds.{is_in}
 use Rattle.og_csubset.specs.Loading.{labels_of, targets_of, repeats_case, has_twice, has_labels, functions_known}
 use Rattle.og_cload.proofs.Known.{called_after, called_is}
-use Rattle.og_cload.proofs.Loops.{Left}
+use Rattle.og_names.proofs.Loops.{Left}
 
 -- a test of all labels that statements jump to, statement by statement
 pub targets_all : (p : List ℕ → Bool) (body : List CStmt) → list_all p (flat_map targets_of body) ≡ list_all (λ s. list_all p (targets_of s)) body

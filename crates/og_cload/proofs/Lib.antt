@@ -1,4 +1,3 @@
-pub mod Loops
 pub mod Known
 pub mod Places
 pub mod Looked

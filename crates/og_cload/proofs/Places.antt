@@ -5,7 +5,7 @@ use Rattle.std.specs.Str.{bytes_eq}
 use Rattle.og_csubset.specs.declared.CMember.{CMember}
 use Rattle.og_ir.specs.Cells.{◌>>=◌}
 use Rattle.og_csubset.specs.Kinds.{Kind, member_in, place_in}
-use Rattle.og_cload.proofs.Loops.{Left}
+use Rattle.og_names.proofs.Loops.{Left}
 
 -- the place of a member, where the first one has this place
 abbrev pub member_from : ℕ → List ℕ → List CMember → Option (ℕ × Kind)

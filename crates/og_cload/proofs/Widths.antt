@@ -8,7 +8,7 @@ use Rattle.og_names.specs.declared.Word.{Word}
 use Rattle.og_csubset.specs.Kinds.{members_of, width_within, total, total_by, times}
 use Rattle.std.proofs.lemmas.Bool.Decides.{nat_tests}
 use Rattle.og_cload.specs.Widths.{many, capped}
-use Rattle.og_cload.proofs.Loops.{Left, left_more, left_stop, left_all}
+use Rattle.og_names.proofs.Loops.{Left, left_more, left_stop, left_all}
 
 capped_sum : (a b c : ℕ) → min c (a + b) ≡ min c (min c a + min c b)
 capped_sum a b c = omega arith

@@ -1,5 +1,5 @@
 //! The names under which a program of a model is reached.
-#![tactic(auto, using(crate::proofs::Loops::loops, crate::proofs::Grown::grown))]
+#![tactic(auto, using(og_names::proofs::Loops::loops, crate::proofs::Grown::grown))]
 
 ghost use Rattle.std.specs.Prelude.{◌≡◌, ◌++◌, [], ◌∷◌, map, flat_map, codes, decimal, slice_get, IfOk, OnOk, ℕ};
 ghost use Rattle.og_model.specs.declared.EventId.TheVariants as event;
@@ -185,7 +185,7 @@ pub fn count_of(length: usize) -> Result<u32, NoMemory>
     ensures { IfOk result (λ count. count ≡ length) }
 {
     if length > u32::MAX as usize {
-        return Err(NoMemory);
+        return Err(NoMemory::past_numbers(length));
     }
     Ok(length as u32)
 }

@@ -1,5 +1,5 @@
 //! A program has the interface of its model.
-#![tactic(auto, using(crate::proofs::Loops::loops, crate::proofs::Declared::declared))]
+#![tactic(auto, using(og_names::proofs::Loops::loops, crate::proofs::Declared::declared))]
 
 ghost use Rattle.std.specs.Prelude.{◌≡◌, ℕ, map, length, IfOk};
 ghost use Rattle.std.specs.List.{list_all};

@@ -1,5 +1,5 @@
 //! What the names of a program stand for (C99 6.2.5).
-#![tactic(auto, using(crate::proofs::Loops::loops, crate::proofs::Places::places))]
+#![tactic(auto, using(og_names::proofs::Loops::loops, crate::proofs::Places::places))]
 
 ghost use Rattle.std.specs.Prelude.{◌≡◌, Some, None, map, ℕ, ◌+◌};
 ghost use Rattle.std.specs.List.{find};

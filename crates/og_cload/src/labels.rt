@@ -1,5 +1,5 @@
 //! Labels, cases and calls that are there (C99 6.2.1, 6.8.1 and 6.8.4.2).
-#![tactic(auto, using(crate::proofs::Loops::loops, crate::proofs::Labelled::labelled))]
+#![tactic(auto, using(og_names::proofs::Loops::loops, crate::proofs::Labelled::labelled))]
 
 ghost use Rattle.std.specs.Prelude.{◌≡◌, ◌++◌, IfOk, OnOk};
 ghost use Rattle.std.specs.List.{list_all, list_any};

@@ -1,5 +1,5 @@
 //! Names of a program, as bytes.
-#![tactic(auto, using(crate::proofs::Loops::loops))]
+#![tactic(auto, using(og_names::proofs::Loops::loops))]
 
 ghost use Rattle.std.specs.Prelude.{◌≡◌, map, IfOk, OnOk, ◌++◌};
 ghost use Rattle.og_csubset.specs.Kinds.{is_in as is_among, function_names as names_of_functions, event_names as names_of_events, global_names as names_of_globals, struct_names as names_of_structs};

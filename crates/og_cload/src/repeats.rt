@@ -1,5 +1,5 @@
 //! Names that stand twice (C99 6.2.1).
-#![tactic(auto, using(crate::proofs::Loops::loops))]
+#![tactic(auto, using(og_names::proofs::Loops::loops))]
 
 ghost use Rattle.std.specs.Prelude.{◌≡◌, map, IfOk};
 ghost use Rattle.std.specs.List.{list_any};

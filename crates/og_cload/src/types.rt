@@ -1,5 +1,5 @@
 //! Struct types are defined before they are used (C99 6.7.7).
-#![tactic(auto, using(crate::proofs::Loops::loops))]
+#![tactic(auto, using(og_names::proofs::Loops::loops))]
 
 ghost use Rattle.std.specs.Prelude.{◌≡◌, [], IfOk};
 ghost use Rattle.std.specs.List.{list_all};

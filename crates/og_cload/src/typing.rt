@@ -1,5 +1,5 @@
 //! The types of places and expressions (C99 6.5.2 and 6.5.16).
-#![tactic(auto, using(crate::proofs::Loops::loops, crate::proofs::Numbers::numbers))]
+#![tactic(auto, using(og_names::proofs::Loops::loops, crate::proofs::Numbers::numbers))]
 
 ghost use Rattle.std.specs.Prelude.{◌≡◌, Some, None};
 ghost use Rattle.std.specs.List.{list_all};

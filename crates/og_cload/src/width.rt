@@ -1,5 +1,5 @@
 //! How many cells the globals have (C99 6.2.5).
-#![tactic(auto, using(crate::proofs::Loops::loops, crate::proofs::Widths::widths))]
+#![tactic(auto, using(og_names::proofs::Loops::loops, crate::proofs::Widths::widths))]
 
 ghost use Rattle.std.specs.Prelude.{◌≡◌, ◌+◌, ◌≤◌, ◌<◌, ℕ, map, nat_eq, length};
 ghost use Rattle.og_csubset.specs.Kinds.{width_within as width_within_of, width_of as width_of_type, total, times as times_of};

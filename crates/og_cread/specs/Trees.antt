@@ -31,7 +31,12 @@ use Rattle.og_cread.specs.declared.take.TreeError.TheVariants.{NoTree, NoMemory}
 abbrev pub Gives : {X Y : Type 0} → (X → Y) → Result X TreeError → Option Y → Type 0
 Gives view (Ok x) found = found ≡ Some (view x)
 Gives view (Err NoTree) found = found ≡ None
-Gives view (Err NoMemory) found = Unit {0}
+Gives view (Err (NoMemory met)) found = Unit {0}
+
+-- memory could not be had
+abbrev pub IsOutOfMemory : TreeError → Type 0
+IsOutOfMemory NoTree = ⊥
+IsOutOfMemory (NoMemory met) = Unit {0}
 
 -- the one where something was found, and else the other
 abbrev pub found_or : {A B : Type 0} → Found A → Found B → (A → List Token → Found B) → Found B

@@ -24,7 +24,7 @@ pub fn program_of(alloc: Global, tokens: &[Token]) -> Result<CProgram, NoMemory>
 {
     match whole_of(alloc, tokens) {
         Ok(program) => Ok(program),
-        Err(TreeError::NoMemory) => Err(NoMemory),
+        Err(TreeError::NoMemory(met)) => Err(met),
         Err(TreeError::NoTree) => unreachable!(),
     }
 }
@@ -81,7 +81,7 @@ fn structs_of(
                 rest = behind;
             }
             Err(TreeError::NoTree) => return Ok((structs, rest)),
-            Err(TreeError::NoMemory) => return Err(TreeError::NoMemory),
+            Err(TreeError::NoMemory(met)) => return Err(TreeError::NoMemory(met)),
         }
     }
     Ok((structs, rest))
@@ -139,7 +139,7 @@ fn members_of(
                 rest = behind;
             }
             Err(TreeError::NoTree) => return Ok((members, rest)),
-            Err(TreeError::NoMemory) => return Err(TreeError::NoMemory),
+            Err(TreeError::NoMemory(met)) => return Err(TreeError::NoMemory(met)),
         }
     }
     Ok((members, rest))
@@ -205,7 +205,7 @@ fn globals_of(
                 rest = behind;
             }
             Err(TreeError::NoTree) => return Ok((globals, rest)),
-            Err(TreeError::NoMemory) => return Err(TreeError::NoMemory),
+            Err(TreeError::NoMemory(met)) => return Err(TreeError::NoMemory(met)),
         }
     }
     Ok((globals, rest))
@@ -239,7 +239,7 @@ fn events_of(
                 rest = behind;
             }
             Err(TreeError::NoTree) => return Ok((events, rest)),
-            Err(TreeError::NoMemory) => return Err(TreeError::NoMemory),
+            Err(TreeError::NoMemory(met)) => return Err(TreeError::NoMemory(met)),
         }
     }
     Ok((events, rest))
@@ -286,7 +286,7 @@ fn functions_of(
                 rest = behind;
             }
             Err(TreeError::NoTree) => return Ok((functions, rest)),
-            Err(TreeError::NoMemory) => return Err(TreeError::NoMemory),
+            Err(TreeError::NoMemory(met)) => return Err(TreeError::NoMemory(met)),
         }
     }
     Ok((functions, rest))

@@ -9,15 +9,16 @@ mod number;
 mod statement;
 mod take;
 
-ghost use Rattle.std.specs.Prelude.{◌≤◌, ◌-◌, ◌^◌, length, IfOk, IfErr, IsErrOf};
+ghost use Rattle.std.specs.Prelude.{◌≤◌, ◌-◌, ◌^◌, length, IfOk, IfErr, MatchResult};
 ghost use Rattle.og_csubset.specs.Spelling.{CSpells};
 ghost use Rattle.og_csubset.specs.Nesting.{IsWithinNesting};
-ghost use Rattle.og_clex.specs.Told.{TellsBad, TellsDeep};
+ghost use Rattle.og_clex.specs.Told.{TellsBad, TellsDeep, IsOutOfMemory};
 
 use declaration::program_of;
 pub use og_clex::CReadError;
 use og_clex::tokens_of;
 use og_csubset::CProgram;
+use og_names::NoMemory;
 use std::alloc::Global;
 
 /// Reads the texts of programs that nest at most 256 deep, in time linear in the bytes. Of the two rules the one that is
@@ -30,10 +31,10 @@ pub fn read_c(alloc: Global, bytes: &[u8]) -> Result<CProgram, CReadError>
     ensures bad { IfErr result (TellsBad bytes.now) }
     ensures deep { IfErr result (TellsDeep bytes.now) }
     // A text whose places may not be told is not read.
-    ensures long { 2 ^ 32 - 1 ≤ length bytes.now → IsErrOf result CReadError.NoMemory }
+    ensures long { 2 ^ 32 - 1 ≤ length bytes.now → MatchResult result (λ _. ⊥) IsOutOfMemory }
 {
     if bytes.len() >= LONGEST {
-        return Err(CReadError::NoMemory);
+        return Err(CReadError::NoMemory(NoMemory::past_numbers(bytes.len())));
     }
     let tokens = tokens_of(alloc, bytes)?;
     Ok(program_of(alloc, tokens.as_slice())?)

@@ -33,7 +33,7 @@ pub fn statements_of(
                 rest = behind;
             }
             Err(TreeError::NoTree) => return Ok((statements, rest)),
-            Err(TreeError::NoMemory) => return Err(TreeError::NoMemory),
+            Err(TreeError::NoMemory(met)) => return Err(TreeError::NoMemory(met)),
         }
     }
     Ok((statements, rest))
@@ -171,7 +171,7 @@ fn cases_of(
                 rest = behind;
             }
             Err(TreeError::NoTree) => return Ok((cases, rest)),
-            Err(TreeError::NoMemory) => return Err(TreeError::NoMemory),
+            Err(TreeError::NoMemory(met)) => return Err(TreeError::NoMemory(met)),
         }
     }
     Ok((cases, rest))

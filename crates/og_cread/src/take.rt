@@ -1,35 +1,35 @@
 //! What stands in front of a list of tokens: a mark, a keyword, a name, a number, a relation or an operator.
 ghost use Rattle.std.specs.Prelude.{◌≡◌, ◌^◌, ◌<◌, IfSome, option_map};
 ghost use Rattle.og_csubset.specs.Spelling.{is_sum, is_product};
-ghost use Rattle.og_cread.specs.Trees.{Gives, mark_at, keyword_at, name_at, digits_at, relation_at, operator_at};
+ghost use Rattle.og_cread.specs.Trees.{Gives, IsOutOfMemory, mark_at, keyword_at, name_at, digits_at, relation_at, operator_at};
 ghost use Rattle.og_clex.specs.Views.{tokens_view, keyword_view, mark_view};
 ghost use Rattle.og_cread.specs.declared.take.TreeError.TheVariants.{NoMemory as OutOfMemory};
 
 use og_clex::{Keyword, Mark, Token, is_keyword, is_mark};
 use og_csubset::{COp, CRel};
-use og_names::Word;
+use og_names::{NoMemory, Word};
 use std::alloc::{AllocError, Global};
 
 /// Why tokens give no tree: none begins with them, or memory could not be had.
 #[derive(Clone, Copy, Debug, PartialEq, Eq)]
 pub enum TreeError {
     NoTree,
-    NoMemory,
+    NoMemory(NoMemory),
 }
 
 impl From<AllocError> for TreeError {
-    ghost from_gives = { λ _ e. e ≡ OutOfMemory };
+    ghost from_gives = { λ _ error. IsOutOfMemory error };
 
-    fn from(_error: AllocError) -> TreeError {
-        TreeError::NoMemory
+    fn from(error: AllocError) -> TreeError {
+        TreeError::NoMemory(NoMemory::from(error))
     }
 }
 
-impl From<og_names::NoMemory> for TreeError {
-    ghost from_gives = { λ _ e. e ≡ OutOfMemory };
+impl From<NoMemory> for TreeError {
+    ghost from_gives = { λ met error. error ≡ OutOfMemory met };
 
-    fn from(_error: og_names::NoMemory) -> TreeError {
-        TreeError::NoMemory
+    fn from(met: NoMemory) -> TreeError {
+        TreeError::NoMemory(met)
     }
 }
 

@@ -58,7 +58,7 @@ loaded program model =
 -- the first broken rule is reported, and want of memory says nothing
 abbrev pub Refuses : LoadError → Option LoadRule → Type 0
 Refuses (BadProgram rule) found = found ≡ Some rule
-Refuses NoMemory found = ⊤
+Refuses (NoMemory met) found = ⊤
 
 -- ---- stimuli
 

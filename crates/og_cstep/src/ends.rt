@@ -1,5 +1,5 @@
 //! What the globals of an interface say, by their numbers.
-#![tactic(auto, using(og_cload::proofs::Loops::loops, crate::proofs::Slotted::slotted))]
+#![tactic(auto, using(og_names::proofs::Loops::loops, crate::proofs::Slotted::slotted))]
 
 ghost use Rattle.std.specs.Prelude.{◌≡◌, Some, map};
 ghost use Rattle.std.specs.List.{list_all};

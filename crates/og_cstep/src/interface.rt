@@ -1,5 +1,5 @@
 //! The globals of a model's interface among those of a program, and what they say.
-#![tactic(auto, using(og_cload::proofs::Loops::loops, og_cload::proofs::Places::places, og_cload::proofs::Grown::grown, crate::proofs::Slotted::slotted))]
+#![tactic(auto, using(og_names::proofs::Loops::loops, og_cload::proofs::Places::places, og_cload::proofs::Grown::grown, crate::proofs::Slotted::slotted))]
 
 ghost use Rattle.std.specs.Prelude.{◌≡◌, IfOk, map, length};
 ghost use Rattle.std.specs.Option.{is_some};

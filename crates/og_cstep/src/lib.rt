@@ -22,6 +22,7 @@ use og_csubset::CProgram;
 pub use og_csubset::LoadRule;
 use og_model::Model;
 pub use og_model::{EventId, FaultKind, StimId, StuckRule};
+use og_names::NoMemory;
 use sqlite_items::Items;
 use std::alloc::Global;
 
@@ -29,7 +30,7 @@ use std::alloc::Global;
 #[derive(Clone, Copy, Debug, PartialEq, Eq)]
 pub enum LoadError {
     BadProgram(LoadRule),
-    NoMemory,
+    NoMemory(NoMemory),
 }
 
 /// What one statement shows: nothing, an event, how the run has ended, or why it cannot go on.

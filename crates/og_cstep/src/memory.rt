@@ -7,9 +7,9 @@ use og_names::NoMemory;
 impl From<NoMemory> for LoadError {
     ghost use Rattle.og_cstep.specs.declared.LoadError.TheVariants as load_error;
 
-    ghost from_gives = { λ _ error. error ≡ load_error.NoMemory };
+    ghost from_gives = { λ met error. error ≡ load_error.NoMemory met };
 
-    fn from(_error: NoMemory) -> LoadError {
-        LoadError::NoMemory
+    fn from(met: NoMemory) -> LoadError {
+        LoadError::NoMemory(met)
     }
 }

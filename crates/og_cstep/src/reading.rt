@@ -1,5 +1,5 @@
 //! What the globals of a machine say.
-#![tactic(auto, using(og_cload::proofs::Loops::loops, crate::proofs::Slotted::slotted, crate::proofs::Numbered::numbered))]
+#![tactic(auto, using(og_names::proofs::Loops::loops, crate::proofs::Slotted::slotted, crate::proofs::Numbered::numbered))]
 
 ghost use Rattle.std.specs.Prelude.{◌≡◌, map, pos, slice_get, unwrap_or, IsTrue, OnOk, OnErr};
 ghost use Rattle.og_ir.specs.Cells.{row};

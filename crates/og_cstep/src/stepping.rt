@@ -177,7 +177,7 @@ fn function_of(alloc: Global, model: &Model, stimulus: StimId) -> Result<Word, N
 }
 
 /// The number of a function.
-#[tactic(auto, using(og_cload::proofs::Loops::loops, og_cload::proofs::Places::places))]
+#[tactic(auto, using(og_names::proofs::Loops::loops, og_cload::proofs::Places::places))]
 fn place_in(name: &[u8], functions: &[CFunction]) -> Option<usize>
     ensures { result ≡ place_among name.now (map (λ f. f.name.bytes) functions.now) }
 {

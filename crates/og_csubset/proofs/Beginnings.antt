@@ -17,8 +17,7 @@ use Rattle.og_csubset.specs.declared.CFunction.{CFunction}
 use Rattle.og_csubset.specs.declared.CGlobal.{CGlobal}
 use Rattle.og_csubset.specs.declared.CType.{CType}
 use Rattle.og_ir.specs.Cells.{Cells}
-use Rattle.og_ir.proofs.ValueCells.{left_of, right_of}
-use Rattle.og_ir.proofs.ValueRead.{bound, same_value}
+use Rattle.og_ir.proofs.ValueRead.{bound}
 use Rattle.og_csubset.specs.Kinds.{Kind, place_in, is_in, global_names, event_names, function_names, global_kind}
 use Rattle.og_csubset.specs.Interface.{Shape, Number, Typed, Field, numbers_below, inputs_of, start_function, signal_function, timer_function, incoming_from, incoming, functions_of, events_of, event_name, control_fields, variable_fields, timer_fields, fields_of}
 use Rattle.og_csubset.specs.Loading.{passes, is_shaped, has_field, has_event, breaks_K3, breaks_K4, breaks_K5, breaks_K6, breaks_K7, breaks_K8, breaks_K9, first_load_rule, Loads}
@@ -30,6 +29,7 @@ use Rattle.og_csubset.proofs.Extension.{not_false}
 use Rattle.og_csubset.proofs.Forms.{global_found}
 use Rattle.og_csubset.proofs.Layouts.{int64_form, cells_formed}
 use Rattle.og_csubset.proofs.Steady.{all_at, all_of_each, named_place, unchained}
+use Rattle.og_names.proofs.Truths.{both_first as left_of, both_second as right_of, same_value}
 
 -- an element of a mapped list
 map_at : {A B : Type 0} (f : A → B) (xs : List A) (k : ℕ) (x : A) → slice_get xs k ≡ Some x → slice_get (map f xs) k ≡ Some (f x)

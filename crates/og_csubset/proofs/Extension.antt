@@ -20,8 +20,8 @@ use Rattle.og_csubset.specs.Kinds.{Kind, is_in, event_names, function_names, glo
 use Rattle.og_csubset.specs.Loading.{passes, is_shaped, has_field, is_free, has_event, breaks_K3, breaks_K4, breaks_K5, breaks_K6, breaks_K7, breaks_K8, breaks_K9, first_load_rule, Loads}
 use Rattle.og_csubset.specs.declared.LoadRule.TheVariants as rule
 use Rattle.std.proofs.lemmas.Option.{none-some}
-use Rattle.og_ir.proofs.ValueCells.{left_of, right_of}
 use Rattle.og_csubset.specs.Extension.{SameName, Extends}
+use Rattle.og_names.proofs.Truths.{both_first as left_of, both_second as right_of}
 
 -- equal lists made by functions that agree on the elements
 map_all : {A B : Type 0} (f g : A → B) (xs : List A) → AllByRecursion (λ x. f x ≡ g x) xs → map f xs ≡ map g xs

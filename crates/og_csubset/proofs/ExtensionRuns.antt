@@ -17,7 +17,7 @@ use Rattle.og_model.specs.Shown.{Event, Output, Set, End, Rest, Fault, Stopped, 
 use Rattle.og_ir.specs.Cells.{Cells, ◌>>=◌}
 use Rattle.og_ir.specs.Reading.{value_in, cells_of, truth_in}
 use Rattle.og_ir.specs.Steps.{Config, Running, Over, Broken, exec}
-use Rattle.og_ir.proofs.ValueRead.{bound, same_value}
+use Rattle.og_ir.proofs.ValueRead.{bound}
 use Rattle.og_csubset.specs.declared.CProgram.{CProgram}
 use Rattle.og_csubset.specs.Kinds.{place_in, global_names, function_names, first_globals}
 use Rattle.og_csubset.specs.Interface.{Shape, Number, Typed, Field, events_of, event_name, inputs_of, outputs_of, signal_function, variable_field, variable_fields, region_field, kind_name, stopped_name}
@@ -26,6 +26,7 @@ use Rattle.og_csubset.specs.Step.{cstep}
 use Rattle.og_csubset.specs.Run.{goes_on, shown_by, shown_of, runs, all_stimuli, entered, begun, c_machine, c}
 use Rattle.og_csubset.specs.Extension.{SameName, Extends, end_over, shown_over}
 use Rattle.og_csubset.proofs.Extension.{inputs_same, outputs_same, durations_same, signal_functions_same, timer_functions_same, event_names_same, events_same, variable_fields_same, timer_fields_same, region_field_same, further}
+use Rattle.og_names.proofs.Truths.{neither_first as or_left, neither_second as or_right, same_value}
 
 bind_on : {A B : Type 0} (o : Option A) (f g : A → Option B) → ((x : A) → f x ≡ g x) → (o >>= f) ≡ (o >>= g)
 bind_on None f g h = refl
@@ -170,14 +171,6 @@ module _ (M L : Model) (ext : Extends M L) where
       read_keeps (number_named g kind_name >>= end_by_kind L g) (number_named g kind_name >>= end_by_kind M g)
       (λ e h. let k = bound (number_named g kind_name) _ e h in ap (λ o. o >>= end_by_kind M g) k.is ∙ by_kind_keeps g k.value e k.gives)
       free
-
-pub or_left : (a b : Bool) → (a || b) ≡ false → a ≡ false
-or_left true b h = h
-or_left false b h = refl
-
-pub or_right : (a b : Bool) → (a || b) ≡ false → b ≡ false
-or_right true b h = absurd (false≢true (sym h))
-or_right false b h = h
 
 -- what goes on is seen over the first variables
 on_keeps : (M : Model) (e : End) (more more' : List Shown) → (has_stuck more' ≡ false → more ≡ shown_over M more') → has_stuck (goes_on e more' []) ≡ false → goes_on (end_over (length M.variables) e) more [] ≡ shown_over M (goes_on e more' [])

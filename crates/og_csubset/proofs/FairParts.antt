@@ -1,5 +1,5 @@
--- Whether an expression of flat code is a number, and how deep its text goes, are made of what its parts are.
-use Rattle.std.proofs.Common.{◌≡◌, ℕ, zero, suc, ◌+◌, ◌≤◌, List, [], ◌∷◌, Bool, cond, ◌&&◌, Option, Some, None, slice_get, refl, ap, ◌∙◌, arith}
+-- Whether an expression of flat code is a number, and its text, are made of what its parts are.
+use Rattle.std.proofs.Common.{◌≡◌, ℕ, zero, suc, ◌≤◌, List, [], ◌∷◌, Bool, cond, ◌&&◌, Option, Some, None, map, slice_get, refl, ap, ◌∙◌, arith}
 use Rattle.og_types.specs.declared.Sort.{Sort}
 use Rattle.og_ir.specs.declared.Ir.{Ir}
 use Rattle.og_ir.specs.declared.Slot.{Slot, size-Slot}
@@ -9,7 +9,10 @@ use Rattle.og_ir.specs.declared.Flat.{Flat, out-Flat, size-Flat}
 use Rattle.og_ir.specs.declared.Flat.TheOpen.{Flat-F, Number, Read, Op}
 use Rattle.og_ir.specs.Cells.{◌>>=◌}
 use Rattle.og_ir.proofs.Depth.{depth_of_parts, depth_is, path_below, index_below}
-use Rattle.og_csubset.specs.Fair.{Held, held_in_slot, field_of, item_of, held_after, held_at_by, is_one, number_by, number_within, is_number, depth_of_path, depth_by, depth_within, depth_of}
+use Rattle.og_csubset.specs.Fair.{Held, held_in_slot, field_of, item_of, held_after, held_at_by, is_one, number_by, number_within, is_number}
+use Rattle.og_csubset.specs.declared.CExpr.TheOpen.{Member, At}
+use Rattle.og_csubset.specs.Plain.{Piece, piece, op_piece, step_text, place_text}
+use Rattle.og_csubset.specs.FlatText.{no_name, slot_word, operator_of, selector_text, piece_by, piece_within, flat_piece}
 use denote.Param.Weighed.{most}
 
 bind_on : {A B : Type 0} (o : Option A) (f g : A → Option B) → ((x : A) → f x ≡ g x) → (o >>= f) ≡ (o >>= g)
@@ -57,36 +60,38 @@ number_is sorts ir e =
     (λ part below. number_within_same parts (size-Flat part) sorts ir part below (omega arith))
     sorts ir (out-Flat e) (omega arith)
 
-module _ (f g : Flat → ℕ) (d : ℕ) (h : (e : Flat) → size-Flat e ≤ d → f e ≡ g e) where
-  depth_of_path_same : (steps : List Step2) → most size-Step2 steps ≤ d → depth_of_path f steps ≡ depth_of_path g steps
-  depth_of_path_same [] below = refl
-  depth_of_path_same (step.Field k ∷ steps) below = ap (λ n. 1 + n) (depth_of_path_same steps (omega (arith, below)))
-  depth_of_path_same (step.Index e ∷ steps) below =
-      ap (λ n. 2 + n + depth_of_path f steps) (h e (index_below e steps d below))
-      ∙ ap (λ n. 2 + g e + n) (depth_of_path_same steps (omega (arith, below)))
+module _ (f g : Flat → Piece) (d : ℕ) (h : (e : Flat) → size-Flat e ≤ d → f e ≡ g e) (ir : Ir) where
+  path_same : (steps : List Step2) → most size-Step2 steps ≤ d → map (selector_text f) steps ≡ map (selector_text g) steps
+  path_same [] below = refl
+  path_same (step.Field k ∷ steps) below =
+      ap (λ texts. step_text (Member no_name) ∷ texts) (path_same steps (omega (arith, below)))
+  path_same (step.Index e ∷ steps) below =
+      ap (λ (p : Piece). step_text (At p) ∷ map (selector_text f) steps) (h e (index_below e steps d below))
+      ∙ ap (λ texts. step_text (At (g e)) ∷ texts) (path_same steps (omega (arith, below)))
 
-  depth_by_same : (shape : Flat-F Flat Step2 Slot) → depth_of_parts shape ≤ d → depth_by f shape ≡ depth_by g shape
-  depth_by_same (Number n) below = refl
-  depth_by_same (Read slot) below = depth_of_path_same slot.path (path_below slot d below)
-  depth_by_same (Op o a b) below =
-      ap (λ n. 3 + n + f b) (h a (omega (arith, below))) ∙ ap (λ n. 3 + g a + n) (h b (omega (arith, below)))
+  piece_by_same : (shape : Flat-F Flat Step2 Slot) → depth_of_parts shape ≤ d → piece_by f ir shape ≡ piece_by g ir shape
+  piece_by_same (Number n) below = refl
+  piece_by_same (Read slot) below =
+      ap (λ texts. piece 0 (place_text (record { name = slot_word (slice_get ir.slots slot.base); path = texts })) None) (path_same slot.path (path_below slot d below))
+  piece_by_same (Op o a b) below =
+      ap (λ p. op_piece (operator_of o) p (f b)) (h a (omega (arith, below))) ∙ ap (λ q. op_piece (operator_of o) (g a) q) (h b (omega (arith, below)))
 
-depth_within_same : (d d' : ℕ) (e : Flat) → size-Flat e ≤ d → size-Flat e ≤ d' → depth_within d e ≡ depth_within d' e
-depth_within_same zero d' e p q = absurd (let deep = depth_is e in omega (arith, deep, p))
-depth_within_same (suc d) zero e p q = absurd (let deep = depth_is e in omega (arith, deep, q))
-depth_within_same (suc d) (suc d') e p q =
+piece_within_same : (d d' : ℕ) (ir : Ir) (e : Flat) → size-Flat e ≤ d → size-Flat e ≤ d' → piece_within d ir e ≡ piece_within d' ir e
+piece_within_same zero d' ir e p q = absurd (let deep = depth_is e in omega (arith, deep, p))
+piece_within_same (suc d) zero ir e p q = absurd (let deep = depth_is e in omega (arith, deep, q))
+piece_within_same (suc d) (suc d') ir e p q =
     let deep = depth_is e in
-    depth_by_same (depth_within d) (depth_within d') (depth_of_parts (out-Flat e))
-    (λ part below. depth_within_same d d' part (omega (arith, deep, p, below)) (omega (arith, deep, q, below)))
-    (out-Flat e) (omega arith)
+    piece_by_same (piece_within d ir) (piece_within d' ir) (depth_of_parts (out-Flat e))
+    (λ part below. piece_within_same d d' ir part (omega (arith, deep, p, below)) (omega (arith, deep, q, below)))
+    ir (out-Flat e) (omega arith)
 
--- the depth of an expression's text is made of those of its parts
-pub depth_of_is : (e : Flat) → depth_of e ≡ depth_by depth_of (out-Flat e)
-unfolding depth_of
-depth_of_is e =
+-- the text of an expression is made of those of its parts
+pub flat_piece_is : (ir : Ir) (e : Flat) → flat_piece ir e ≡ piece_by (flat_piece ir) ir (out-Flat e)
+unfolding flat_piece
+flat_piece_is ir e =
     let deep = depth_is e in
     let parts = depth_of_parts (out-Flat e) in
-    ap (λ d. depth_within d e) deep
-    ∙ depth_by_same (depth_within parts) (λ part. depth_within (size-Flat part) part) parts
-    (λ part below. depth_within_same parts (size-Flat part) part below (omega arith))
-    (out-Flat e) (omega arith)
+    ap (λ d. piece_within d ir e) deep
+    ∙ piece_by_same (piece_within parts ir) (λ part. piece_within (size-Flat part) ir part) parts
+    (λ part below. piece_within_same parts (size-Flat part) ir part below (omega arith))
+    ir (out-Flat e) (omega arith)

@@ -25,14 +25,14 @@ use Rattle.og_ir.specs.Cells.{Cells, Cell, Empty, Both, number_in, part, change,
 use Rattle.og_ir.specs.Reading.{natural, below}
 use Rattle.og_ir.specs.Arithmetic.{Trouble, Overflow, Index, Divide, Value, ◌>>=◌, or_else, in_64_bits, is_zero, quotient_of}
 use Rattle.std.specs.Prelude.{find, ◌+ℤ◌, ◌-ℤ◌, ◌*ℤ◌, neg_ℤ, int_div}
-use Rattle.og_ir.proofs.ValueCells.{left_of, right_of}
 use Rattle.og_csubset.specs.declared.CTest.{size-CTest}
 use Rattle.og_ir.specs.FlatSteps.{Spot, cells_at, put}
-use Rattle.og_ir.proofs.ValueRead.{bound, same_value}
+use Rattle.og_ir.proofs.ValueRead.{bound}
 use Rattle.og_csubset.specs.Kinds.{Kind, place_in, global_names, global_kind, type_of_one, type_unless, members_of, member_in, member_of, element_of}
 use Rattle.og_csubset.specs.Loading.{is_number_type, kind_after, type_by, number_by, is_number, type_of_place}
 use Rattle.og_csubset.specs.Step.{walk, spot_by, operation, holds_by, side, value_by, value_of, spot_of}
 use Rattle.og_csubset.specs.Forms.{Form, One, Row, kind_of_member, one_of, row_of, form_of_type, form_of_sized, form_of, HasForm, HaveForms}
+use Rattle.og_names.proofs.Truths.{both_first as left_of, both_second as right_of, same_value}
 
 -- a value that has P, or a trouble that is none of names and forms
 abbrev pub Good : {A : Type 0} → (A → Type 0) → Result A Trouble → Type 0

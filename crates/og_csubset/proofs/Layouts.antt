@@ -15,10 +15,10 @@ use Rattle.og_csubset.specs.declared.CType.{CType}
 use Rattle.og_csubset.specs.declared.CType.TheVariants.{Int64, Struct}
 use Rattle.og_ir.specs.Cells.{Cells, Cell, Empty, Both, row, equal_parts, cells_by}
 use Rattle.og_ir.specs.Reading.{blank_sort, blank_within, write_parts, write_alternatives, write_items, write_sequence, write_seq_of, write_sort, write_within, cells_of}
-use Rattle.og_ir.proofs.ValueCells.{left_of, right_of}
 use Rattle.og_csubset.specs.Kinds.{members_of}
 use Rattle.og_csubset.specs.Loading.{passes, have_shapes, is_int64, is_one_number, is_choice, is_array, is_seq_of, is_struct, shape_by, shape_within}
 use Rattle.og_csubset.specs.Forms.{Row, kind_of_member, one_of, row_of, form_of_type, form_of_sized, form_of, HasForm}
+use Rattle.og_names.proofs.Truths.{both_first as left_of, both_second as right_of}
 
 pub int64_form : (structs : List CStruct) (t : CType) (z : ℤ) → is_int64 t ≡ true → HasForm structs (Cell z) (form_of_type structs t)
 int64_form structs Int64 z h = tt

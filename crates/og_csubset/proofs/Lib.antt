@@ -34,3 +34,4 @@ pub mod Judged
 pub mod OneAnswer
 pub mod WrongExamples
 pub mod FairParts
+pub mod FlatTexts

@@ -27,16 +27,14 @@ use Rattle.og_ir.specs.Cells as cells
 use Rattle.og_ir.specs.Cells.{Cells, Cell, Empty, Both, row, equal_parts, cells_by}
 use Rattle.og_ir.specs.Arithmetic.{Trouble, Overflow, Index, Divide, Value, ◌>>=◌, or_else, is_same}
 use Rattle.og_ir.specs.Steps.{Frame, Config, Running, Over, Broken, Ran, quiet, exec, with_value, onward, jumped, returned, called, showing}
-use Rattle.og_ir.proofs.ValueCells.{left_of, right_of}
-use Rattle.og_ir.proofs.ValueRead.{same_value}
 use Rattle.og_csubset.specs.Kinds.{place_in, is_in, struct_names, global_names, event_names, function_names, same_type, members_of, sized, blank_within, blank_type, first_globals}
 use Rattle.og_csubset.specs.Loading.{has_twice, all_names, is_known, structs_known, is_number, type_of_place, type_of_shape, type_of, agree, is_typed, repeats_case, labels_of, targets_of, has_labels, calls_known, functions_known, breaks_K3, breaks_K4, breaks_K5, breaks_K6, breaks_K7, first_load_rule, Loads}
 use Rattle.og_csubset.specs.Step.{value_of, holds, spot_of, assigned, is_label, label_in, gone, case_of, act, fetched, cstep}
 use Rattle.og_csubset.specs.Forms.{Row, kind_of_member, one_of, row_of, form_of_type, form_of_sized, HasForm, HaveForms, IsCall, IsSteady}
 use Rattle.og_model.specs.declared.Model.{Model}
 use Rattle.og_csubset.proofs.Extension.{not_false}
-use Rattle.og_csubset.proofs.ExtensionRuns.{or_left, or_right}
 use Rattle.og_csubset.proofs.Forms.{Good, good_bind, FoundSpot, value_good, place_good}
+use Rattle.og_names.proofs.Truths.{both_first as left_of, both_second as right_of, either_first as or_first, either_second as or_second, either_true as either, neither_first as or_left, neither_second as or_right, same_value}
 
 -- ---- lists and names
 
@@ -55,17 +53,6 @@ all_of_each q f (y ∷ xs) (suc k) x h e =
     all_of_each q f xs k x (right_of (list_all q (f y)) (list_all q (flat_map f xs)) (sym (list_all-append q (f y) (flat_map f xs)) ∙ h)) e
 
 -- one of two tests that hold
-either : (a b : Bool) → (a || b) ≡ true → (a ≡ true) ⊎ (b ≡ true)
-either true b h = inl refl
-either false b h = inr h
-
-or_first : (a b : Bool) → a ≡ true → (a || b) ≡ true
-or_first a b h = ap (λ t. t || b) h
-
-or_second : (a b : Bool) → b ≡ true → (a || b) ≡ true
-or_second true b h = refl
-or_second false b h = h
-
 -- A name's place, with what stands there.
 pub record Named {A : Type 0} (text : A → List ℕ) (xs : List A) (name : List ℕ) : Type 0 where
   pub place : ℕ

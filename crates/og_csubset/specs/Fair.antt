@@ -1,7 +1,7 @@
 -- Flat code that can be printed as a program of the C subset over a model, with one function for each function and a few
 -- statements for each instruction: whatever it names is there and is used as what it is, its names are C names, it has the
 -- model's interface, and it is within the limits of the subset.
-use Rattle.std.specs.Prelude.{◌≡◌, ℕ, zero, suc, ◌+◌, ◌≤◌, max, List, [], ◌∷◌, ◌++◌, Bool, true, false, not, if◌then◌else◌, ◌&&◌, ◌||◌, ◌==◌, nat_lt, nat_le, Option, Some, None, map, take, length, slice_get, IsTrue}
+use Rattle.std.specs.Prelude.{◌≡◌, ℕ, zero, suc, ◌+◌, ◌≤◌, List, [], ◌∷◌, ◌++◌, Bool, true, false, not, if◌then◌else◌, ◌&&◌, ◌||◌, ◌==◌, nat_lt, nat_le, Option, Some, None, map, take, length, slice_get, IsTrue}
 use Rattle.std.specs.List.{list_all, list_any}
 use Rattle.og_types.specs.declared.Sort.{Sort}
 use Rattle.og_types.specs.declared.Sort.TheVariants as sort
@@ -30,6 +30,7 @@ use Rattle.og_csubset.specs.Loading.{has_twice, passes}
 use Rattle.og_csubset.specs.Interface as interface
 use Rattle.og_csubset.specs.Interface.{Shape, Typed, Field}
 use Rattle.og_csubset.specs.FlatRun.{slot_names, flat_function_names}
+use Rattle.og_csubset.specs.FlatText.{nesting_of_instruction}
 
 -- What stands at a place: a number, a structured value of a type, or the array of the items of one.
 pub data Held : Type 0 where
@@ -142,42 +143,9 @@ are_right sorts ir earlier [] = true
 are_right sorts ir earlier (f ∷ functions) =
     list_all (is_right sorts ir earlier (length f.code)) f.code && are_right sorts ir (earlier + 1) functions
 
--- How deep brackets, operators, signs and selectors of an instruction's text lie in one another at most: each of them is
--- counted, as if it stayed open to the end.
-abbrev pub depth_of_path : (Flat → ℕ) → List Step2 → ℕ
-depth_of_path depth [] = 0
-depth_of_path depth (step.Field k ∷ steps) = 1 + depth_of_path depth steps
-depth_of_path depth (step.Index e ∷ steps) = 2 + depth e + depth_of_path depth steps
-
-abbrev pub depth_by : (Flat → ℕ) → Flat-F Flat Step2 Slot → ℕ
-depth_by depth (flat.Number n) = 4
-depth_by depth (flat.Read slot) = depth_of_path depth slot.path
-depth_by depth (flat.Op o a b) = 3 + depth a + depth b
-
-abbrev pub depth_within : ℕ → Flat → ℕ
-depth_within zero e = 0
-depth_within (suc depth) e = depth_by (depth_within depth) (out-Flat e)
-
-unfoldable pub depth_of : Flat → ℕ
-depth_of e = depth_within (size-Flat e) e
-
-abbrev pub depth_of_slot : Slot → ℕ
-depth_of_slot slot = depth_of_path depth_of slot.path
-
--- the selectors of a target end before the right side; a test stands in brackets, and so does what is done where it holds
-abbrev pub depth_of_instr : Instr → ℕ
-depth_of_instr (instr.Set slot e) = max (depth_of_slot slot) (depth_of e)
-depth_of_instr (instr.Copy to from) = max (depth_of_slot to) (depth_of_slot from)
-depth_of_instr (instr.Branch test place) = 2 + depth_of test.left + depth_of test.right
-depth_of_instr (instr.Goto place) = 0
-depth_of_instr (instr.Table e cases otherwise) = 5 + depth_of e
-depth_of_instr (instr.Call f) = 1
-depth_of_instr (instr.Emit event) = 1
-depth_of_instr instr.Back = 0
-
 -- the text of each instruction, in the braces of its function, nests at most 256 deep
-abbrev pub is_shallow : FlatFn → Bool
-is_shallow f = list_all (λ i. nat_le (1 + depth_of_instr i) 256) f.code
+abbrev pub is_shallow : Ir → FlatFn → Bool
+is_shallow ir f = list_all (λ i. nat_le (nesting_of_instruction ir i) 256) f.code
 
 -- a function has for each instruction a word, or no bytes
 abbrev pub is_label : List ℕ → Bool
@@ -222,7 +190,7 @@ pub record Fair (ir : Ir) (model : Model) : Type 0 where
   pub differ : IsTrue (not (has_twice (names_of ir)))
   pub labels : IsTrue (list_all is_labelled ir.functions)
   pub small : total (map count (first_slots model.types ir)) ≤ 16777216
-  pub shallow : IsTrue (list_all is_shallow ir.functions)
+  pub shallow : IsTrue (list_all (is_shallow ir) ir.functions)
   -- the first slots are those of the regions, of STOP and of faults
   pub control : map (λ field. field.name) (interface.control_fields model) ≡ take (length (interface.control_fields model)) (slot_names ir)
   pub fields : IsTrue (list_all (has_slot model.types ir) (interface.fields_of model))

@@ -1,5 +1,5 @@
 -- Flat code over a small model, with what it shows, worked out by hand.
-use Rattle.std.specs.Prelude.{◌≡◌, ℕ, ◌-◌, ◌^◌, ℤ, pos, List, [], ◌∷◌, map, codes}
+use Rattle.std.specs.Prelude.{◌≡◌, ℕ, zero, suc, ◌-◌, ◌^◌, ℤ, pos, List, [], ◌∷◌, map, codes}
 use Rattle.og_types.specs.declared.Value.TheVariants as value
 use Rattle.og_model.specs.declared.StuckRule.TheVariants as stuck
 use Rattle.og_model.specs.Shown.{Shown, Past, Stuck}
@@ -20,6 +20,7 @@ use Rattle.og_csubset.specs.Examples.{word, type, with_variables, go, shows, at_
 use Rattle.og_csubset.specs.FlatRun.{flat, flat_in_64_bits}
 use Rattle.og_csubset.specs.Paced.{paced}
 use Rattle.og_csubset.specs.Fair.{Fair}
+use Rattle.og_csubset.specs.FlatText.{nesting_of_instruction}
 
 abbrev pub cell : List ℕ → SlotDef
 cell name = record { name = word name; sort = slot_sort.Cell }
@@ -154,3 +155,13 @@ CountsAndLeavesItsType =
 -- the code can be printed
 abbrev pub CountingIsFair : Type 0
 CountingIsFair = Fair counting with_variables
+
+-- a one, and so many more ones that are added, each on the right
+abbrev pub ones : ℕ → Flat
+ones zero = int 1
+ones (suc n) = operates op.Add (ones n) (int 1)
+
+-- a sum of forty numbers nests 41 deep: the brace of the function, 39 operators to the end of the statement, and the bracket
+-- of the last literal
+abbrev pub SumOfFortyNests : Type 0
+SumOfFortyNests = nesting_of_instruction counting (Set x (ones 39)) ≡ 41

@@ -10,6 +10,7 @@ pub mod Tokens
 pub mod Spelling
 pub mod Nesting
 pub mod Fair
+pub mod FlatText
 pub mod Examples
 pub mod FlatExamples
 pub mod Texts

@@ -21,6 +21,7 @@ ghost use Rattle.og_csubset.specs.Forms.{HaveForms, IsSteady};
 ghost use Rattle.og_types.specs.declared.Sort.{Sort};
 ghost use Rattle.og_ir.specs.declared.Flat.{Flat as Computation, out-Flat};
 ghost use Rattle.og_csubset.specs.Fair as fair;
+ghost use Rattle.og_csubset.specs.FlatText.{piece_by, flat_piece};
 ghost use Rattle.og_csubset.specs.Extension.{Extends, shown_over};
 ghost use Rattle.og_csubset.specs.Agreement.{enough, is_stimulus, AreStimuli, SameBehaviour};
 
@@ -115,11 +116,11 @@ pub fn loaded_programs_are_steady<E>()
         → IsSteady program (exec (cstep shows program) n config).config }
 {}
 
-/// Whether an expression of flat code is a number, and how deep its text goes, are made of what its parts are.
+/// Whether an expression of flat code is a number, and its text, are made of what its parts are.
 pub fn fairness_of_parts()
     ensures number { (sorts : List Sort) (ir : Code) (e : Computation)
         → fair.is_number sorts ir e ≡ fair.number_by (fair.is_number sorts ir) sorts ir (out-Flat e) }
-    ensures depth { (e : Computation) → fair.depth_of e ≡ fair.depth_by fair.depth_of (out-Flat e) }
+    ensures text { (ir : Code) (e : Computation) → flat_piece ir e ≡ piece_by (flat_piece ir) ir (out-Flat e) }
 {}
 
 /// Where each instruction takes one statement, code shows what it shows instruction by instruction.

@@ -17,11 +17,11 @@ use Rattle.og_model.specs.Run.{first_state, start, step, end_of, shown_stopped, 
 use Rattle.og_ir.specs.Cells.{Cells}
 use Rattle.og_ir.specs.Steps as Steps
 use Rattle.og_ir.specs.Steps.{Frame, Config, Running, Over, Broken}
-use Rattle.og_ir.proofs.ValueCells.{left_of, right_of}
 use Rattle.og_csubset.specs.Agreement.{is_stimulus, AreStimuli, SameRuns}
 use Rattle.og_csubset.specs.Paced.{Pace, IsPace, exec_paced, paced_runs}
 use Rattle.og_csubset.specs.Run.{Machine, goes_on, shown_by, shown_of, all_stimuli}
 use Rattle.og_flatten.proofs.PacedSteps.{Stays, Later, goes_later}
+use Rattle.og_names.proofs.Truths.{both_first as left_of, both_second as right_of}
 
 -- ---- what the code does at one stimulus
 

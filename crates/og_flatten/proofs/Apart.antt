@@ -5,7 +5,6 @@ use Rattle.std.specs.List.{list_all, list_any}
 use Rattle.std.specs.Str.{bytes_eq}
 use Rattle.std.specs.Cmp.Lexicographic.{bytes_decides}
 use Rattle.std.proofs.lemmas.Bool.{ltb-true, eq-eqb}
-use Rattle.og_ir.proofs.ValueCells.{left_of, right_of}
 use Rattle.og_names.specs.declared.NameId.{NameId}
 use Rattle.og_names.specs.declared.Word.{Word}
 use Rattle.og_names.specs.Folding.{place_of}
@@ -21,12 +20,9 @@ use Rattle.og_csubset.specs.Fair.{names_of}
 use Rattle.og_flatten.specs.FlatCode.{event_word, signal_function, signal_functions, code_of}
 use Rattle.og_flatten.proofs.Made.{IsMade}
 use Rattle.og_flatten.proofs.Tests.{neither, all_by, any_append}
+use Rattle.og_names.proofs.Truths.{both_first as left_of, both_second as right_of, not_true}
 
 -- ---- tests that fail
-
-not_true : (b : Bool) → not b ≡ true → b ≡ false
-not_true true h = cc
-not_true false h = refl
 
 twice_one : (name : List ℕ) (names : List (List ℕ)) → is_in name names ≡ false → has_twice names ≡ false → has_twice (name ∷ names) ≡ false
 twice_one name names new twice = ap (λ b. b || has_twice names) new ∙ twice

@@ -26,8 +26,8 @@ use Rattle.og_model.specs.Forms.{UsesBasicStatesOnly, is_output, is_plain_step, 
 use Rattle.og_model.specs.Resolved.{IsResolved, Surroundings, in_states, is_signal, if_any, is_known, is_action, is_step, is_end, is_ending, is_block_within, is_body, is_handler, is_state, is_start, is_level, is_scope_within}
 use Rattle.og_model.specs.WellSorted.{is_place}
 use Rattle.og_model.specs.WellFormed.{IsWellFormed}
-use Rattle.og_ir.proofs.ValueCells.{left_of, right_of}
 use Rattle.og_flatten.specs.FlatCode.{bodies_of, states_of, starts_of, steps_of, end_of}
+use Rattle.og_names.proofs.Truths.{both_first as left_of, both_second as right_of}
 
 -- what holds of each element holds of the one at a place
 pub every : {A : Type 0} (p : A → Bool) (xs : List A) (k : ℕ) (x : A) → list_all p xs ≡ true → slice_get xs k ≡ Some x → p x ≡ true
@@ -113,30 +113,30 @@ steps_by M w inner (x ∷ xs) plain known =
       steps_by M w inner xs (right_of (is_plain_step x) _ plain) (right_of (is_step M w inner x) _ known),
     )
 
-record EndIs (M : Model) (w : Surroundings) (o : Option Ending) : Type 0 where
+record EndIs (M : Model) (states : List StateDef) (o : Option Ending) : Type 0 where
   pub ending : Ending
   pub ends : o ≡ Some ending
   pub state : ℕ
   pub next : ending.kind ≡ Ends.Next state None
-  pub there : state < w.states
+  pub there : state < length states
 
-kind_by : (M : Model) (w : Surroundings) (o : Option Ending) (e : Ending) (kind : EndKind) → o ≡ Some e → e.kind ≡ kind → is_next kind ≡ true → is_end M w kind ≡ true → EndIs M w o
-kind_by M w o e (Ends.Next k entry) is same plain known = record {
+kind_by : (M : Model) (states : List StateDef) (o : Option Ending) (e : Ending) (kind : EndKind) → o ≡ Some e → e.kind ≡ kind → is_next kind ≡ true → is_end M (in_states states) kind ≡ true → EndIs M states o
+kind_by M states o e (Ends.Next k entry) is same plain known = record {
   ending = e;
   ends = is;
   state = k;
   next = same ∙ ap (Ends.Next k) (none_is entry plain);
-  there = ltb-true k w.states (left_of (nat_lt k w.states) _ known);
+  there = ltb-true k (length states) (left_of (nat_lt k (length states)) _ known);
 }
-kind_by M w o e Ends.Dash is same plain known = absurd (false≢true plain)
-kind_by M w o e (Ends.Join l) is same plain known = absurd (false≢true plain)
-kind_by M w o e (Ends.Return exit r) is same plain known = absurd (false≢true plain)
-kind_by M w o e Ends.Stop is same plain known = absurd (false≢true plain)
+kind_by M states o e Ends.Dash is same plain known = absurd (false≢true plain)
+kind_by M states o e (Ends.Join l) is same plain known = absurd (false≢true plain)
+kind_by M states o e (Ends.Return exit r) is same plain known = absurd (false≢true plain)
+kind_by M states o e Ends.Stop is same plain known = absurd (false≢true plain)
 
-end_by : (M : Model) (w : Surroundings) (o : Option Ending) → is_plain_ending o ≡ true → if_any (is_ending M w) o ≡ true → EndIs M w o
-end_by M w None plain known = absurd (false≢true plain)
-end_by M w (Some e) plain known =
-    kind_by M w (Some e) e e.kind refl refl (right_of (is_none e.label) _ plain)
+end_by : (M : Model) (states : List StateDef) (o : Option Ending) → is_plain_ending o ≡ true → if_any (is_ending M (in_states states)) o ≡ true → EndIs M states o
+end_by M states None plain known = absurd (false≢true plain)
+end_by M states (Some e) plain known =
+    kind_by M states (Some e) e e.kind refl refl (right_of (is_none e.label) _ plain)
     (right_of (is_place e.place) _ (right_of (if_any (is_known M) e.label) _ known))
 
 body_by : (depth : ℕ) (M : Model) (b : Body) → is_plain_body b ≡ true → is_block_within depth M (in_states (states_of M)) b.block ≡ true → BodyIs M b
@@ -145,7 +145,7 @@ body_by (suc depth) M b plain known =
     let w = in_states (states_of M) in
     let inner = is_block_within depth M w in
     let parts = right_of (is_none b.label) _ plain in
-    let end = end_by M w (end_of b) (right_of (list_all is_plain_step (steps_of b)) _ parts) (right_of (list_all (is_step M w inner) (steps_of b)) _ known) in
+    let end = end_by M (states_of M) (end_of b) (right_of (list_all is_plain_step (steps_of b)) _ parts) (right_of (list_all (is_step M w inner) (steps_of b)) _ known) in
     record {
       steps = steps_by M w inner (steps_of b) (left_of (list_all is_plain_step (steps_of b)) _ parts) (left_of (list_all (is_step M w inner) (steps_of b)) _ known);
       ending = end.ending;

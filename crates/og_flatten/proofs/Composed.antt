@@ -2,7 +2,7 @@
 use Rattle.std.proofs.Common.{◌≡◌, ◌^◌, ◌<◌, sym, subst}
 use Rattle.std.specs.Prelude.{Result, Ok, Err, IfOk}
 use Rattle.og_names.specs.Table.{IsTable}
-use Rattle.og_names.specs.declared.NoMemory.{NoMemory}
+use Rattle.og_names.specs.declared.memory.NoMemory.{NoMemory}
 use Rattle.og_model.specs.declared.Model.{Model}
 use Rattle.og_model.specs.Forms.{UsesBasicStatesOnly}
 use Rattle.og_model.specs.WellFormed.{IsWellFormed}

@@ -1,8 +1,8 @@
 -- The instructions that stand in the code of a model: what holds of each of their forms holds of the whole code.
-use Rattle.std.proofs.Common.{◌≡◌, ℕ, ◌+◌, List, [], ◌∷◌, ◌++◌, Bool, true, false, cond, map, Option, Some, None, ℤ, pos, refl}
+use Rattle.std.proofs.Common.{◌≡◌, ℕ, ◌+◌, ◌≤◌, List, [], ◌∷◌, ◌++◌, Bool, true, false, cond, map, Option, Some, None, slice_get, ℤ, pos, refl, arith}
 use Rattle.std.specs.Prelude.{nat_le}
 use Rattle.std.specs.List.{list_all}
-use Rattle.std.proofs.lemmas.Bool.{and_from}
+use Rattle.std.proofs.lemmas.Bool.{and_from, le-leb}
 use Rattle.og_model.specs.declared.Model.{Model}
 use Rattle.og_model.specs.declared.Signal.{Signal}
 use Rattle.og_model.specs.declared.Handler.{Handler}
@@ -13,12 +13,18 @@ use Rattle.og_model.specs.declared.Block.{Block}
 use Rattle.og_model.specs.declared.Step.{Step}
 use Rattle.og_model.specs.declared.Action.{Action, Action-F, out-Action}
 use Rattle.og_model.specs.declared.Action.TheOpen as action
+use Rattle.og_ir.specs.declared.Ir.{Ir}
 use Rattle.og_ir.specs.declared.FlatFn.{FlatFn}
 use Rattle.og_ir.specs.declared.Instr.{Instr}
 use Rattle.og_ir.specs.declared.Instr.TheVariants as instr
 use Rattle.og_ir.specs.declared.Case.{Case}
 use Rattle.og_ir.specs.CellsOnly.{is_plain_instruction, UsesCellsOnly}
-use Rattle.og_csubset.specs.Fair.{depth_of_instr, is_shallow}
+use Rattle.og_csubset.specs.Tokens.{Token, name, keyword, mark, switch_, default_, open_brace, close_brace, open_round, close_round, semicolon, colon, equals}
+use Rattle.og_csubset.specs.Nesting.{nesting_from, nesting}
+use Rattle.og_csubset.specs.Plain.{plain_constant, each, jump}
+use Rattle.og_csubset.specs.FlatText.{no_name, slot_word, case_text, nesting_of_instruction}
+use Rattle.og_csubset.specs.Fair.{is_shallow}
+use Rattle.og_csubset.proofs.FlatTexts.{in_function, table_shallow, set_shallow}
 use Rattle.og_flatten.specs.FlatCode.{bodies_of, states_of, starts_of, steps_of, end_of, handler_in, start_body, read, sets, is_stopped, first_entering, end_place, action_at, step_at, ending_at, body_at, bodies_at, entering_code, transition_code, choice_code, start_code, handled_code, choices_code, signal_code, signal_function, signal_functions, functions_of, code_of}
 use Rattle.og_flatten.proofs.Computing.{instructions}
 use Rattle.og_flatten.proofs.Tests.{all_append, all_always, all_map}
@@ -96,20 +102,31 @@ module _ (p : Instr → Bool) (form : OfEachForm p) where
     pub of_functions : list_all (λ (f : FlatFn). list_all p f.code) (functions_of model) ≡ true
     of_functions = and_from _ _ of_transition (and_from _ _ of_start (of_signals 0 model.signals))
 
-shallow_forms : OfEachForm (λ i. nat_le (1 + depth_of_instr i) 256)
+behind_brace : (tokens : List Token) → nesting_from in_function tokens ≤ 256 → nat_le (nesting (mark open_brace ∷ tokens)) 256 ≡ true
+behind_brace tokens h = le-leb (nesting (mark open_brace ∷ tokens)) 256 (omega (arith, h))
+
+shallow_forms : (ir : Ir) → OfEachForm (λ i. nat_le (nesting_of_instruction ir i) 256)
 unfolding instructions
-shallow_forms = record {
-  sets = λ base n. refl;
+shallow_forms ir = record {
+  sets = λ base n.
+      let w = (slot_word (slice_get ir.slots base)).bytes in
+      behind_brace (name w ∷ mark equals ∷ plain_constant n (mark semicolon ∷ [])) (set_shallow w n);
   branch = λ place. refl;
   goto = λ place. refl;
-  table = λ base cases otherwise. refl;
+  table = λ base cases otherwise.
+      let w = (slot_word (slice_get ir.slots base)).bytes in
+      let inner = table_shallow cases in
+      behind_brace
+      (keyword switch_ ∷ mark open_round ∷ name w ∷ mark close_round ∷ mark open_brace
+      ∷ each case_text cases (keyword default_ ∷ mark colon ∷ jump no_name (mark close_brace ∷ [])))
+      (omega (arith, inner));
   call = λ function. refl;
   emit = λ event. refl;
   back = refl;
 }
 
-pub shallow : (model : Model) → list_all is_shallow (functions_of model) ≡ true
-shallow model = of_functions (λ i. nat_le (1 + depth_of_instr i) 256) shallow_forms model
+pub shallow : (model : Model) → list_all (is_shallow (code_of model)) (functions_of model) ≡ true
+shallow model = of_functions (λ i. nat_le (nesting_of_instruction (code_of model) i) 256) (shallow_forms (code_of model)) model
 
 plain_forms : OfEachForm is_plain_instruction
 unfolding instructions

@@ -27,18 +27,10 @@ use Rattle.og_csubset.specs.Fair.{Fair, names_of}
 use Rattle.og_csubset.specs.FlatRun.{slot_names, flat_function_names, flat_event}
 use Rattle.og_csubset.specs.Reads.{Globals, event_shown, event_named, event_of, values_of}
 use Rattle.og_flatten.specs.FlatCode.{code_of, event_word, signal_function, function_if_incoming, signal_functions}
-use Rattle.og_flatten.proofs.Places.{some_is}
 use Rattle.og_flatten.proofs.Basic.{every, empty_is}
+use Rattle.og_names.proofs.Truths.{neither_first as or_left, neither_second as or_right, neither_true as both_false, same_value as some_is}
 
 -- ---- names that differ
-
-or_left : (a b : Bool) → (a || b) ≡ false → a ≡ false
-or_left true b h = h
-or_left false b h = refl
-
-or_right : (a b : Bool) → (a || b) ≡ false → b ≡ false
-or_right true b h = absurd (false≢true (sym h))
-or_right false b h = h
 
 own_bytes : (name : List ℕ) → bytes_eq name name ≡ true
 own_bytes name = (bytes_eq-Decides name name).1 refl
@@ -75,10 +67,6 @@ place_of (first ∷ names) (suc i) name once at =
 in_more : (name : List ℕ) (xs ys : List (List ℕ)) → is_in name (xs ++ ys) ≡ false → is_in name ys ≡ false
 in_more name [] ys h = h
 in_more name (x ∷ xs) ys h = in_more name xs ys (or_right (bytes_eq name x) (is_in name (xs ++ ys)) h)
-
-both_false : (a b : Bool) → a ≡ false → b ≡ false → (a || b) ≡ false
-both_false true b p q = p
-both_false false b p q = q
 
 in_fewer : (name : List ℕ) (xs ys : List (List ℕ)) → is_in name (xs ++ ys) ≡ false → is_in name xs ≡ false
 in_fewer name [] ys h = refl

@@ -1,4 +1,3 @@
-pub mod Loops
 pub mod Computing
 pub mod Made
 pub mod Tests

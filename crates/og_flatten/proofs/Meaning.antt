@@ -27,8 +27,8 @@ use Rattle.og_model.specs.Moving.{In, out_of, leave, hook, exit_of, transition, 
 use Rattle.og_model.specs.Settling.{provided_by, own_continuous, continuous_at, continuous_inside, continuous_of, ordered, first_of, settle_by, settle}
 use Rattle.og_model.specs.Run.{start, step, handled, variables_of}
 use Rattle.og_flatten.specs.FlatCode.{states_of, is_input, handler_in}
-use Rattle.og_ir.proofs.ValueCells.{left_of, right_of}
 use Rattle.og_flatten.proofs.Basic.{empty_is, StepIs, StateIs, StartIs}
+use Rattle.og_names.proofs.Truths.{both_first as left_of, both_second as right_of}
 
 -- ---- doing one thing after the other
 

@@ -6,7 +6,6 @@ use Rattle.std.specs.Char.{is_ascii_alphabetic}
 use Rattle.std.proofs.lemmas.Bool.{and_from, ltb-true}
 use Rattle.std.proofs.lemmas.Bool.Decides.{nat_tests}
 use Rattle.std.proofs.lemmas.List.{length-map}
-use Rattle.og_ir.proofs.ValueCells.{left_of, right_of}
 use Rattle.og_names.specs.declared.NameId.{NameId}
 use Rattle.og_names.specs.declared.Word.{Word}
 use Rattle.og_model.specs.declared.Model.{Model}
@@ -29,6 +28,7 @@ use Rattle.og_flatten.proofs.Made.{IsMade}
 use Rattle.og_flatten.proofs.Tests.{all_append, all_always, all_map, all_by}
 use Rattle.og_flatten.proofs.Parts.{parts}
 use Rattle.og_flatten.proofs.Right.{length-transition_code, length-signal_code}
+use Rattle.og_names.proofs.Truths.{both_first as left_of, both_second as right_of}
 
 -- ---- names of a model
 

@@ -2,7 +2,6 @@
 use Rattle.std.proofs.Common.{◌≡◌, ℕ, zero, suc, List, Bool, true, length}
 use Rattle.std.specs.Prelude.{nat_lt}
 use Rattle.std.specs.List.{list_all}
-use Rattle.og_ir.proofs.ValueCells.{left_of, right_of}
 use Rattle.og_model.specs.declared.Model.{Model}
 use Rattle.og_model.specs.declared.Handler.{Handler}
 use Rattle.og_model.specs.declared.StateDef.{StateDef}
@@ -14,6 +13,7 @@ use Rattle.og_model.specs.Resolved.{if_any, is_known, is_step, is_ending, is_blo
 use Rattle.og_flatten.specs.FlatCode.{bodies_of, states_of, starts_of, steps_of, end_of}
 use Rattle.og_flatten.proofs.Made.{IsMade}
 use Rattle.og_flatten.proofs.Tests.{all_by}
+use Rattle.og_names.proofs.Truths.{both_first as left_of, both_second as right_of}
 
 -- the tests of a scope, whatever is asked of the scopes inside
 pub record Level (model : Model) (inner : Scope → Bool) (m : Scope) : Type 0 where

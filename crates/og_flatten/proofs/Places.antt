@@ -13,6 +13,7 @@ use Rattle.og_ir.specs.declared.Case.{Case}
 use Rattle.og_ir.specs.Arithmetic.{is_same}
 use Rattle.og_ir.specs.FlatSteps.{case_of}
 use Rattle.og_flatten.specs.FlatCode.{steps_of, end_of, handler_in, sets, region, body_length, length_of_bodies, body_cases, step_at, ending_at, body_at, bodies_at, entering_code, choice_code, handled_code, choices_code, handled_case, choice_cases}
+use Rattle.og_names.proofs.Truths.{same_value as some_is}
 
 same_number : (a : ℕ) → is_same (pos a) (pos a) ≡ true
 same_number a =
@@ -76,9 +77,6 @@ pub record BodyAt (entering end : ℕ) (code : List Instr) (cases : List Case) (
   pub code_there : HasAt code place (body_at entering end b)
   pub from : first ≤ place
   pub to : place + body_length b ≤ last
-
-pub some_is : {A : Type 0} (x y : A) → Some x ≡ Some y → x ≡ y
-some_is x y e = search
 
 pub bodies_placed : (entering end n k : ℕ) (before rest : List Instr) (bodies : List Body) (b : Body) → slice_get bodies k ≡ Some b → BodyAt entering end (before ++ (bodies_at entering end bodies ++ rest)) (body_cases n (length before) bodies) (length before) (length before + length_of_bodies bodies) (n + k) b
 bodies_placed entering end n k before rest [] b at = absurd (none-some b at)

@@ -5,7 +5,6 @@ use Rattle.std.specs.List.{list_all, list_any}
 use Rattle.std.proofs.lemmas.Bool.{and_from, lt-ltb, ltb-true}
 use Rattle.std.proofs.lemmas.Bool.Decides.{nat_tests}
 use Rattle.std.proofs.lemmas.List.{length-map}
-use Rattle.og_ir.proofs.ValueCells.{left_of, right_of}
 use Rattle.og_model.specs.declared.Model.{Model}
 use Rattle.og_model.specs.declared.Signal.{Signal}
 use Rattle.og_model.specs.declared.Handler.{Handler}
@@ -33,6 +32,7 @@ use Rattle.og_flatten.proofs.Computing.{instructions}
 use Rattle.og_flatten.proofs.Made.{IsMade}
 use Rattle.og_flatten.proofs.Tests.{all_append, all_map, all_by, any_append}
 use Rattle.og_flatten.proofs.Parts.{Steps, steps_in, has_bodies, parts}
+use Rattle.og_names.proofs.Truths.{both_first as left_of, both_second as right_of}
 
 -- ---- numbers
 

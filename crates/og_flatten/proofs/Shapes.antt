@@ -3,7 +3,6 @@ use Rattle.std.proofs.Common.{◌≡◌, ℕ, zero, suc, ◌+◌, List, [], ◌�
 use Rattle.std.specs.Prelude.{codes, flat_map}
 use Rattle.std.specs.List.{list_all}
 use Rattle.std.proofs.lemmas.Bool.{and_from}
-use Rattle.og_ir.proofs.ValueCells.{left_of, right_of}
 use Rattle.og_types.specs.Table.{is_empty}
 use Rattle.og_names.specs.declared.NameId.{NameId}
 use Rattle.og_model.specs.declared.Model.{Model}
@@ -25,6 +24,7 @@ use Rattle.og_csubset.specs.FlatRun.{slot_names}
 use Rattle.og_flatten.specs.FlatCode.{code_of}
 use Rattle.og_flatten.proofs.Made.{IsMade}
 use Rattle.og_flatten.proofs.Tests.{all_append}
+use Rattle.og_names.proofs.Truths.{both_first as left_of, both_second as right_of}
 
 -- ---- regions
 

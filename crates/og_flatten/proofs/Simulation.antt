@@ -31,7 +31,6 @@ use Rattle.og_ir.specs.Arithmetic.{in_64_bits}
 use Rattle.og_ir.specs.Cells.{◌>>=◌, Cells}
 use Rattle.og_ir.specs.FlatSteps.{first_slots, case_of}
 use Rattle.og_ir.specs.Steps.{Config, Running, Over, quiet}
-use Rattle.og_ir.proofs.ValueCells.{left_of, right_of}
 use Rattle.og_csubset.specs.Agreement.{is_stimulus, is_sent, are_in}
 use Rattle.og_csubset.specs.Fair.{Fair}
 use Rattle.og_csubset.specs.FlatRun.{slot_names, flat_function_names, flat_machine}
@@ -46,12 +45,13 @@ use Rattle.og_flatten.proofs.Agreeing.{AtRest, AtHalt, AnswersBy, Answers, Ended
 use Rattle.og_flatten.proofs.Passing.{Passed, none_passed, with_place, elsewhere, not_there}
 use Rattle.og_flatten.proofs.Tracks.{begins, ends, runs_on}
 use Rattle.og_flatten.proofs.SingleSteps.{slots_at, step_of, sets_region, sets_chosen, table_of_chosen, table_of_region, not_stopped}
-use Rattle.og_flatten.proofs.Places.{some_is, HasAt, BodyAt, bodies_placed, entering_placed, length_of_all, ChoiceAt, handled_placed, not_handled, has_at}
+use Rattle.og_flatten.proofs.Places.{HasAt, BodyAt, bodies_placed, entering_placed, length_of_all, ChoiceAt, handled_placed, not_handled, has_at}
 use Rattle.og_flatten.proofs.Basic.{body_is, StateIs, state_is, start_is}
 use Rattle.og_flatten.proofs.Meaning.{whole, start_is_whole, step_takes, step_discards, paths_are}
 use Rattle.og_flatten.proofs.Transitions.{frame, Followed, free_at, Ahead, later_ahead, with_ahead, UsedUp}
 use Rattle.og_flatten.proofs.Wholes.{Rested, follows_whole}
 use Rattle.og_flatten.proofs.Interfaces.{start_placed, SignalAt, signal_at, emits, no_inputs, leaf_of, leaf_at, no_regions, there}
+use Rattle.og_names.proofs.Truths.{both_first as left_of, both_second as right_of, same_value as some_is}
 
 -- a model of basic states with what holds of it
 pub record IsBasic (M : Model) : Type 0 where

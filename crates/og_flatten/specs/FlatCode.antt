@@ -160,9 +160,6 @@ step_code model step = step_at (end_place model) step
 abbrev pub place_after : Model → Option Ending → ℕ
 place_after model ending = ending_at (first_entering model) (end_place model) ending
 
-abbrev pub body_code : Model → Body → List Instr
-body_code model body = body_at (first_entering model) (end_place model) body
-
 abbrev pub bodies_code : Model → List Body → List Instr
 bodies_code model bodies = bodies_at (first_entering model) (end_place model) bodies
 

@@ -1,5 +1,5 @@
 //! What the functions of flat code are made of.
-ghost use Rattle.std.specs.Prelude.{◌≡◌, ◌+◌, ◌++◌, IfOk};
+ghost use Rattle.std.specs.Prelude.{◌≡◌, ◌≤◌, ◌+◌, ◌^◌, ◌++◌, IfOk, IfErr};
 ghost use Rattle.og_ir.specs.declared.Instr.TheVariants as instr;
 ghost use Rattle.og_csubset.specs.Interface.{name_of};
 ghost use Rattle.og_flatten.specs.FlatCode.{word, slot as whole_slot, read as reading, sets, is_stopped, no_label as empty_label, joined_label};
@@ -102,21 +102,24 @@ pub fn name_text(model: &Model, name: NameId) -> &[u8]
     }
 }
 
-/// A number of a place or a thing. There are fewer than 2^32 of them, or memory cannot hold them.
+/// A number of a place or a thing. 2^32 of them or more are told as want of memory.
 pub fn number_of(count: usize) -> Result<u32, NoMemory>
-    ensures { IfOk result (λ number. number ≡ count) }
+    ensures number { IfOk result (λ number. number ≡ count) }
+    ensures no_memory { IfErr result (λ _. 2 ^ 32 ≤ count) }
 {
     match u32::try_from(count) {
         Ok(number) => Ok(number),
-        Err(_) => Err(NoMemory),
+        Err(_) => Err(NoMemory::past_numbers(count)),
     }
 }
 
+/// The sum of two counts. 2^64 or more are told as want of memory.
 pub fn sum_of(first: usize, second: usize) -> Result<usize, NoMemory>
-    ensures { IfOk result (λ sum. sum ≡ first + second) }
+    ensures sum { IfOk result (λ sum. sum ≡ first + second) }
+    ensures no_memory { IfErr result (λ _. 2 ^ 64 ≤ first + second) }
 {
     match first.checked_add(second) {
         Some(sum) => Ok(sum),
-        None => Err(NoMemory),
+        None => Err(NoMemory::past_numbers(first.max(second))),
     }
 }

@@ -3,7 +3,7 @@
 //!
 //! `transition` begins with a table over the slot `chosen`, which leads to the code of a body. A body ends by going to the
 //! code that enters its next state. `start` and the functions of the signals set `chosen` and call `transition`.
-#![tactic(auto, using(crate::proofs::Loops::loops))]
+#![tactic(auto, using(og_names::proofs::Loops::loops))]
 
 ghost use Rattle.std.specs.Prelude.{◌≡◌, ◌^◌, ◌<◌, ◌++◌, map, IfOk, OnOk};
 ghost use Rattle.og_names.specs.Table.{IsTable};

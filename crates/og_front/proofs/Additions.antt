@@ -13,7 +13,8 @@ use Rattle.og_front.specs.declared.syntax.SystemText.{SystemText}
 use Rattle.og_front.specs.Names.{declared_by}
 use Rattle.og_front.specs.Rules.{key, with_names, predeclared, tables_of, is_in, violated_if, repeated_from, handlers_of, is_handled, with_handler, with_handlers, repeated_handlers_from}
 use Rattle.og_front.specs.Tables.{AreTables}
-use Rattle.og_front.proofs.Loops.{first_from_both, Left, left_more}
+use Rattle.og_names.proofs.Loops.{Left, left_more}
+use Rattle.og_front.proofs.Loops.{first_from_both}
 
 pub names_both : (table : List (List ℕ)) (names more : List Ident) → with_names table (map key (names ++ more)) ≡ with_names (with_names table (map key names)) (map key more)
 names_both table [] more = refl

@@ -26,7 +26,7 @@ use Rattle.og_front.specs.Building.{bare_state, handlers_from, given, all_given}
 use Rattle.og_front.specs.Tables.{AreTables}
 use Rattle.og_front.proofs.States.{firsts_both, firsts_known, firsts_new, states_are, bodies_are}
 use Rattle.og_front.proofs.Additions.{names_both, the_tables}
-use Rattle.og_front.proofs.Loops.{Left, left_more, left_all}
+use Rattle.og_names.proofs.Loops.{Left, left_more, left_all}
 
 -- ---- the steps of loops
 

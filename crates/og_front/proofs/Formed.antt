@@ -37,7 +37,8 @@ use Rattle.og_front.proofs.NameTables.{numbers_differ, Differ, apart_names, once
 use Rattle.og_front.proofs.Resolving.{of_names, IsKnown, known_names, signals_length, states_of, states_length, apart_numbered, IsHeader, all_headers, resolved}
 use Rattle.og_front.proofs.States.{AreApart, firsts_apart}
 use Rattle.og_front.proofs.TreePlaces.{written_names}
-use Rattle.og_front.proofs.Elements.{both, by_not, not_second, same_from, same_test, all_so, each_so, each_map, each_more, each_two, passed, Apart, apart_map, apart_filter, apart_more, apart_differ}
+use Rattle.og_front.proofs.Elements.{by_not, not_second, same_from, same_test, all_so, each_so, each_map, each_more, each_two, passed, Apart, apart_map, apart_filter, apart_more, apart_differ}
+use Rattle.og_names.proofs.Truths.{both_true as both}
 
 -- ---- names that differ
 
@@ -181,6 +182,9 @@ keeps_rules system written keeps =
       plain_signals = subst (λ ids. list_all (is_plain_name M) ids ≡ true) (sym (append-nil (signal_ids system))) (plain_signals system written keeps);
       plain_variables = refl;
       plain_procedures = refl;
+      first_values = refl;
+      first_values_of_procedures = refl;
+      procedures_enter_none = refl;
       scopes = kept_within system (size-Scope (scope_of (tables_of system) system)) (omega (arith, size)) keeps written;
       start = rw out-roll-Scope refl;
       few_states = few_states system (size-Scope (scope_of (tables_of system) system)) keeps;

@@ -4,6 +4,7 @@ use Rattle.std.specs.Prelude.{◌↔◌}
 use Rattle.std.proofs.lemmas.Bool.Decides.{nat_tests}
 use Rattle.og_base.specs.declared.Violation.{Violation}
 use Rattle.og_base.specs.Order.{rank, comes_before, sooner, first_from, first_of}
+use Rattle.og_names.proofs.Truths.{either_second as either_right, either_true as either}
 
 -- ---- the order is transitive
 
@@ -36,10 +37,6 @@ by_keys v w =
 abbrev Goes : ℕ → ℕ → Bool → Type 0
 Goes x y later = (x < y) ⊎ ((x ≡ y) × (later ≡ true))
 
-either : (a b : Bool) → a || b ≡ true → (a ≡ true) ⊎ (b ≡ true)
-either true b h = inl refl
-either false b h = inr h
-
 both : (a b : Bool) → a && b ≡ true → (a ≡ true) × (b ≡ true)
 both true b h = (refl, h)
 both false b h = absurd (true≢false (sym h))
@@ -68,10 +65,6 @@ goes x y later h =
 
 came_less : (x y : ℕ) (later : Bool) → x < y → nat_lt x y || ((x == y) && later) ≡ true
 came_less x y later lt = ap (λ b. b || ((x == y) && later)) (lesser x y lt)
-
-either_right : (a b : Bool) → b ≡ true → a || b ≡ true
-either_right true b h = refl
-either_right false b h = h
 
 came_same : (x y : ℕ) (later : Bool) → x ≡ y → later ≡ true → nat_lt x y || ((x == y) && later) ≡ true
 came_same x y later e h = either_right (nat_lt x y) ((x == y) && later) ((λ i. (x == sym e i) && later) ∙ (λ i. same x i && h i))

@@ -1,29 +1,15 @@
--- Loops that keep in mind the first of the violations so far, and loops over lists that a recursion takes apart.
+-- Loops that keep in mind the first of the violations so far.
 use Rattle.std.proofs.Common.{◌≡◌, ℕ, ◌+◌, ◌≤◌, ◌<◌, List, [], ◌∷◌, ◌++◌, length, drop, get_or, Option, refl, sym, ap, ◌∙◌}
 use Rattle.std.specs.List.{flat_map}
 use Rattle.std.proofs.lemmas.List.{at_drop_more, at_drop_all}
 use Rattle.og_base.specs.declared.Violation.{Violation}
+use Rattle.og_names.proofs.Loops.{Left, left_first, left_more, left_all}
 use Rattle.og_base.specs.Order.{sooner, first_from}
 
 -- the first violation of two lists
 pub first_from_both : (best : Option Violation) (vs ws : List Violation) → first_from best (vs ++ ws) ≡ first_from (first_from best vs) ws
 first_from_both best [] ws = refl
 first_from_both best (v ∷ vs) ws = first_from_both (sooner best v) vs ws
-
--- what the items from the i-th on still give, in all
-pub record Left {X A : Type 0} (rest : List X → A) (xs : List X) (i : ℕ) (total : A) : Type 0 where
-  pub is : rest (drop i xs) ≡ total
-
-pub left_first : {X A : Type 0} (rest : List X → A) (xs : List X) → Left rest xs 0 (rest xs)
-left_first rest xs = record { is = refl }
-
-pub left_more : {X A : Type 0} (here next : List X → A) (xs : List X) (i : ℕ) (x : X) (total : A)
-    → i < length xs → x ≡ get_or xs i x → ((ys : List X) → here (x ∷ ys) ≡ next ys) → Left here xs i total → Left next xs (i + 1) total
-left_more here next xs i x total lt at step left =
-    record { is = sym (step (drop (i + 1) xs)) ∙ (λ j. here (at j ∷ drop (i + 1) xs)) ∙ sym (at_drop_more here xs i x lt) ∙ left.is }
-
-pub left_all : {X A : Type 0} (rest : List X → A) (xs : List X) (i : ℕ) (total : A) → length xs ≤ i → Left rest xs i total → rest [] ≡ total
-left_all rest xs i total le left = sym (at_drop_all rest xs i le) ∙ left.is
 
 -- after the items before the i-th, the first violation so far
 pub record Noted {X : Type 0} (f : X → List Violation) (xs : List X) (i : ℕ) (now first : Option Violation) : Type 0 where

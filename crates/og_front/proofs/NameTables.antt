@@ -20,7 +20,8 @@ use Rattle.og_front.specs.Rules.{key, with_names, is_in, violated_if, repeated_f
 use Rattle.og_front.specs.Written.{IsWrittenName}
 use Rattle.og_front.proofs.Kept.{not_broken}
 use Rattle.og_front.proofs.States.{AreApart, known_in, new_in, own_in, stay_in, some_in}
-use Rattle.og_front.proofs.Elements.{both, first, second, by_not, less_test, same_from, Apart, none_before}
+use Rattle.og_front.proofs.Elements.{by_not, less_test, same_from, Apart, none_before}
+use Rattle.og_names.proofs.Truths.{both_first as first, both_second as second, both_true as both, either_first as or_first, either_second as or_second}
 
 -- ---- numbers
 
@@ -87,10 +88,6 @@ each_first P table (name ∷ names) all = by (is_in table (key name)) (each_firs
 
 -- ---- folded names
 
-or_second : (a b : Bool) → b ≡ true → a || b ≡ true
-or_second true b h = refl
-or_second false b h = h
-
 le_test : (m n : ℕ) → m ≤ n → nat_le m n ≡ true
 le_test m n h = grind (arith, nat_tests)
 
@@ -123,10 +120,6 @@ no_hyphen p b none h e =
 fold_letter : (b : ℕ) → is_ascii_alphabetic b ≡ true → is_ascii_alphabetic (fold_byte b) ≡ true
 fold_letter b h =
     fold_holds (λ x. is_ascii_alphabetic x ≡ true) b (λ u. or_second (is_upper (b + 32)) (is_lower (b + 32)) (lower_is b u)) (λ e. absurd (no_hyphen is_ascii_alphabetic b refl h e)) (λ _ _. h)
-
-or_first : (a b : Bool) → a ≡ true → a || b ≡ true
-or_first true b h = refl
-or_first false b h = cc
 
 fold_word : (b : ℕ) → is_name_byte b ≡ true → is_name_byte (fold_byte b) ≡ true
 fold_word b h =

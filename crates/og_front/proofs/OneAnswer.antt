@@ -11,6 +11,7 @@ use Rattle.og_front.specs.Grammar.{Spells}
 use Rattle.og_front.specs.Reading.{sentence}
 use Rattle.og_front.specs.Rules.{first_of_rules}
 use Rattle.og_front.proofs.Sentences.{spelt_is_sentence}
+use Rattle.og_names.proofs.Truths.{same_value as same_some}
 
 -- what the lexer's law says
 abbrev pub OneText : Type 0
@@ -21,9 +22,6 @@ OneLexical = (file : ℕ) (bytes : List ℕ) (v w : Violation) → FirstLexical 
 
 abbrev pub Apart : Type 0
 Apart = (file : ℕ) (bytes : List ℕ) (tokens : List Spanned) (comments : List Comment) (v : Violation) → Lexes file bytes tokens comments → FirstLexical file bytes v → ⊥
-
-same_some : {A : Type 0} (x y : A) → Some x ≡ Some y → x ≡ y
-same_some x y e = cc
 
 -- tokens have one tree at most
 same_tree : (a b : SystemText) (tokens others : List Spanned) → tokens ≡ others → Spells a tokens → Spells b others → a ≡ b

@@ -33,7 +33,8 @@ use Rattle.og_front.proofs.Kept.{Keeps, UsesKnown}
 use Rattle.og_front.proofs.NameTables.{all_known, number_below, once_firsts, each_first, all_names_are}
 use Rattle.og_front.proofs.States.{firsts_are, first_table}
 use Rattle.og_front.proofs.TreePlaces.{written_names, IsPlaced, HasPlaces, has_places}
-use Rattle.og_front.proofs.Elements.{both, less_test, all_so, each_so, each_map, each_more, each_two, each_filter, pieces_each, front_of, back_of, Apart}
+use Rattle.og_front.proofs.Elements.{less_test, all_so, each_so, each_map, each_more, each_two, each_filter, pieces_each, front_of, back_of, Apart}
+use Rattle.og_names.proofs.Truths.{both_true as both}
 
 -- ---- basic states alone
 
@@ -275,6 +276,7 @@ resolved system written keeps =
       names = all_names_are [] (all_names system) refl (written_names system written);
       process = number_below (name_table system) system.process (known_names system).process;
       types = refl;
+      few_types = refl;
       type_names = refl;
       signals = good_signals system;
       timers = refl;

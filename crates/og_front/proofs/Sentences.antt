@@ -438,7 +438,7 @@ is_only (Err e) tokens given = tt
 
 refused : (e : ParseError) (tokens : List Spanned) → e ≡ NoSentence → Gives {X = SystemText} (λ x. x) (Err e) (sentence tokens) → sentence tokens ≡ None
 refused NoSentence tokens is given = given
-refused NoMemory tokens is given = absurd cc
+refused (NoMemory met) tokens is given = absurd cc
 
 pub is_none : (r : Result SystemText ParseError) (tokens : List Spanned) → Gives (λ x. x) r (sentence tokens) → IsErrOf r NoSentence → (system : SystemText) → Spells system tokens → ⊥
 is_none (Ok s) tokens given is system h = absurd (search rules)

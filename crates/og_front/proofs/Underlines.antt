@@ -2,7 +2,7 @@
 use Rattle.std.proofs.Common.{◌≡◌, ℕ, ◌+◌, ◌≤◌, ◌<◌, Bool, true, false, ◌&&◌, ◌||◌, ◌==◌, List, [], ◌∷◌, length, get_or, refl, sym, ap, ◌∙◌}
 use Rattle.std.proofs.lemmas.List.{get_or_default}
 use Rattle.og_front.specs.Rules.{has_double_underline}
-use Rattle.og_front.proofs.Loops.{Left, left_more, left_all}
+use Rattle.og_names.proofs.Loops.{Left, left_more, left_all}
 
 -- whether two stand side by side, or one stands first where one stands before
 abbrev pub after : Bool → List ℕ → Bool

@@ -21,6 +21,7 @@ use Rattle.og_model.specs.WellSorted.{is_place}
 use Rattle.og_front.specs.declared.syntax.SystemText.{SystemText}
 use Rattle.og_front.specs.Grammar.{Form, Reserved, ReservedAt, Sign, Named, Last, Begins, system_forms, Spells}
 use Rattle.og_front.specs.Written.{IsWrittenForm, IsWrittenTree}
+use Rattle.og_names.proofs.Truths.{both_first as first, both_second as second, both_true as both}
 
 -- ---- letters
 
@@ -93,18 +94,6 @@ unfolding class_of
 word_byte_is b h =
     regroup (nat_le 65 b && nat_le b 90) (nat_le 97 b && nat_le b 122) (nat_le 48 b && nat_le b 57) (b == 95)
     (word_test ((b == 32) || (b == 9) || (b == 13) || (b == 10)) ((nat_le 65 b && nat_le b 90) || (nat_le 97 b && nat_le b 122)) (nat_le 48 b && nat_le b 57) (b == 95) (b == 39) (sign_class b) (sign_is_other b) h)
-
-both : (a b : Bool) → a ≡ true → b ≡ true → a && b ≡ true
-both true b p q = q
-both false b p q = cc
-
-first : (a b : Bool) → a && b ≡ true → a ≡ true
-first true b h = refl
-first false b h = cc
-
-second : (a b : Bool) → a && b ≡ true → b ≡ true
-second true b h = h
-second false b h = cc
 
 word_bytes_are : (bytes : List ℕ) → IsTrue (list_all is_word bytes) → IsTrue (list_all is_name_byte bytes)
 word_bytes_are [] h = refl

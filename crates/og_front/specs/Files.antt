@@ -46,6 +46,10 @@ pub record BreaksRule (bytes : List ℕ) (v : Violation) : Type 0 where
 abbrev pub FirstViolation : List ℕ → Violation → Type 0
 FirstViolation bytes v = FirstLexical 0 bytes v ⊎ (BreaksGrammar bytes v ⊎ BreaksRule bytes v)
 
+-- the bytes have a first violation
+abbrev pub IsRefused : List ℕ → Type 0
+IsRefused bytes = (v : Violation) × FirstViolation bytes v
+
 -- the name of a rule, as users see it
 abbrev pub rule_text : Rule → List ℕ
 rule_text rule.L1 = codes "L1"

@@ -32,7 +32,12 @@ Read X = List Spanned → Option (X × List Spanned)
 abbrev pub Gives : {X Y : Type 0} → (X → Y) → Result X ParseError → Option Y → Type 0
 Gives view (Ok x) read = read ≡ Some (view x)
 Gives view (Err NoSentence) read = read ≡ None
-Gives view (Err NoMemory) read = Unit {0}
+Gives view (Err (NoMemory met)) read = Unit {0}
+
+-- memory could not be had
+abbrev pub IsOutOfMemory : ParseError → Type 0
+IsOutOfMemory NoSentence = ⊥
+IsOutOfMemory (NoMemory met) = Unit {0}
 
 infixl 10 ◌>>=◌
 abbrev pub ◌>>=◌ : {A B : Type 0} → Option A → (A → Option B) → Option B

@@ -396,6 +396,6 @@ fn number_behind(number: u32) -> Result<u32, NoMemory>
 {
     match number.checked_add(1) {
         Some(next) => Ok(next),
-        None => Err(NoMemory),
+        None => Err(NoMemory::past_numbers(number as usize)),
     }
 }

@@ -1,12 +1,13 @@
 //! The parser: the tokens of a model file as a tree (Z.106, the textual form).
 ghost use Rattle.std.specs.Prelude.{◌≡◌, IfOk, IsErrOf};
 ghost use Rattle.og_front.specs.Grammar.{Spells};
-ghost use Rattle.og_front.specs.Reading.{Gives, is_symbol, begins, symbol_at, name_at, closing_at, heading_at, title_at, next_at, outputs_at, input_at, inputs_at, state_at, states_at, further_at, furthers_at, signal_at, signals_at, start_at, closings_at, body_at, system_at, sentence};
-ghost use Rattle.og_front.specs.declared.parse.ParseError.TheVariants.{NoMemory};
+ghost use Rattle.og_front.specs.Reading.{Gives, IsOutOfMemory, is_symbol, begins, symbol_at, name_at, closing_at, heading_at, title_at, next_at, outputs_at, input_at, inputs_at, state_at, states_at, further_at, furthers_at, signal_at, signals_at, start_at, closings_at, body_at, system_at, sentence};
+ghost use Rattle.og_front.specs.declared.parse.ParseError.TheVariants.{NoMemory as OutOfMemory};
 
 use crate::syntax::{Ident, InputText, NextText, SignalText, StartText, StateText, SystemText};
 use og_base::Place;
 use og_lexer::{Keyword, Mark, Spanned, Token};
+use og_names::NoMemory;
 use sqlite_items::Items;
 use std::alloc::{AllocError, Global};
 
@@ -14,22 +15,22 @@ use std::alloc::{AllocError, Global};
 #[derive(Clone, Copy, Debug, PartialEq, Eq)]
 pub enum ParseError {
     NoSentence,
-    NoMemory,
+    NoMemory(NoMemory),
 }
 
 impl From<AllocError> for ParseError {
-    ghost from_gives = { λ _ e. e ≡ NoMemory };
+    ghost from_gives = { λ _ error. IsOutOfMemory error };
 
-    fn from(_error: AllocError) -> ParseError {
-        ParseError::NoMemory
+    fn from(error: AllocError) -> ParseError {
+        ParseError::NoMemory(NoMemory::from(error))
     }
 }
 
-impl From<og_names::NoMemory> for ParseError {
-    ghost from_gives = { λ _ e. e ≡ NoMemory };
+impl From<NoMemory> for ParseError {
+    ghost from_gives = { λ met error. error ≡ OutOfMemory met };
 
-    fn from(_error: og_names::NoMemory) -> ParseError {
-        ParseError::NoMemory
+    fn from(met: NoMemory) -> ParseError {
+        ParseError::NoMemory(met)
     }
 }
 

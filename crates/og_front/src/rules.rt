@@ -172,8 +172,9 @@ fn add_bytes(table: &mut Names, name: &[u8]) -> Result<NameId, NoMemory>
     ensures number { IfOk result (λ id. place_of table.new (folded name.now) ≡ Some id.0) }
     ensures refused { OnErr result (table.new ≡ table.old) }
 {
-    if table.len() >= u32::MAX as usize {
-        return Err(NoMemory);
+    let count = table.len();
+    if count >= u32::MAX as usize {
+        return Err(NoMemory::past_numbers(count));
     }
     table.add(name)
 }

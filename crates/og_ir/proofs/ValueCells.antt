@@ -16,16 +16,9 @@ use Rattle.og_types.specs.declared.Value.TheViews.{rolls-Int, rolls-Bool, rolls-
 use Rattle.og_types.specs.Values.{in_parts, in_part, in_sort, in_within, is_in}
 use Rattle.og_ir.specs.Cells.{◌>>=◌, Cells, Cell, Empty, Both, part, cells_by}
 use Rattle.og_ir.specs.Reading.{only_if, read_parts, read_items, read_array, read_seq_of, read_sequence, read_choice, read_sort, read_within, value_in, blank_within, write_parts, write_alternatives, write_items, write_sequence, write_seq_of, write_sort, write_within, cells_of}
+use Rattle.og_names.proofs.Truths.{both_first as left_of, both_second as right_of}
 
 -- both of two tests that hold together
-pub left_of : (a b : Bool) → (a && b) ≡ true → a ≡ true
-left_of true b h = refl
-left_of false b h = h
-
-pub right_of : (a b : Bool) → (a && b) ≡ true → b ≡ true
-right_of true b h = h
-right_of false b h = absurd (false≢true h)
-
 module _ (read : TypeId → Cells → Option Value) (blank : TypeId → Cells) (write : TypeId → Value → Cells) (inside : TypeId → Value → Bool) (again : (t : TypeId) (v : Value) → inside t v ≡ true → read t (write t v) ≡ Some v) where
   parts_again : (parts : List Part) (vs : List Value) → in_parts inside parts vs ≡ true → read_parts read parts (write_parts blank write parts vs) ≡ Some vs
   parts_again [] [] h = refl

@@ -2,7 +2,6 @@
 use Rattle.std.proofs.Common.{◌≡◌, ℕ, zero, suc, ◌+◌, List, [], ◌∷◌, Bool, true, ◌&&◌, Option, Some, None, length, slice_get, refl, sym, ap, ◌∙◌, arith}
 use Rattle.std.proofs.lemmas.Option.{none-some, cond_some}
 use Rattle.std.specs.Prelude.{nat_lt, nat_le, unwrap_or}
-use Rattle.og_ir.proofs.ValueCells.{left_of, right_of}
 use Rattle.std.specs.List.{list_all}
 use Rattle.og_types.specs.declared.Part.{Part}
 use Rattle.og_types.specs.declared.Sort.{Sort}
@@ -13,6 +12,7 @@ use Rattle.og_types.specs.declared.Value.TheViews.{outs-Int, outs-Bool, outs-Enu
 use Rattle.og_types.specs.Values.{in_parts, in_part, in_sort, in_within, is_in}
 use Rattle.og_ir.specs.Cells.{◌>>=◌, Cells, Cell, Empty, Both, number_in, part}
 use Rattle.og_ir.specs.Reading.{only_if, natural, below, truth_in, read_parts, read_items, read_array, read_seq_of, read_sequence, read_choice, read_sort, read_within, value_in}
+use Rattle.og_names.proofs.Truths.{both_first as left_of, both_second as right_of, both_true, same_value}
 
 -- a value that a chain gives comes from values of its parts
 pub record Bound {A B : Type 0} (o : Option A) (f : A → Option B) (y : B) : Type 0 where
@@ -25,12 +25,6 @@ bound None f y h = absurd (none-some y h)
 bound (Some x) f y h = record { value = x; is = refl; gives = h }
 
 -- the value that there is
-pub same_value : {A : Type 0} (x y : A) → Some x ≡ Some y → x ≡ y
-same_value x y h = ap (λ o. unwrap_or o x) h
-
-both_true : (a b : Bool) → a ≡ true → b ≡ true → (a && b) ≡ true
-both_true a b p q = ap (λ t. t && b) p ∙ q
-
 module _ (read : TypeId → Cells → Option Value) (inside : TypeId → Value → Bool) (right : (t : TypeId) (cells : Cells) (v : Value) → read t cells ≡ Some v → inside t v ≡ true) where
   parts_in : (parts : List Part) (cells : Cells) (vs : List Value) → read_parts read parts cells ≡ Some vs → in_parts inside parts vs ≡ true
   parts_in [] cells vs h = ap (in_parts inside []) (sym (same_value [] vs h))

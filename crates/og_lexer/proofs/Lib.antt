@@ -1,4 +1,5 @@
 pub mod Cutting
+mod EachText
 pub mod Ends
 pub mod Fronts
 pub mod Placing

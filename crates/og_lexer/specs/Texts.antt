@@ -78,10 +78,18 @@ pub record FirstLexical (file : ℕ) (bytes : List ℕ) (v : Violation) : Type 0
   pub breaks : Breaks v.rule rest
   pub place : v.place ≡ place_at file bytes (length bytes - length rest)
 
+-- the bytes lex to some tokens and comments
+abbrev pub IsText : ℕ → List ℕ → Type 0
+IsText file bytes = (tokens : List Spanned) × ((comments : List Comment) × Lexes file bytes tokens comments)
+
+-- the bytes have a first violation of class L
+abbrev pub IsBroken : ℕ → List ℕ → Type 0
+IsBroken file bytes = (v : Violation) × FirstLexical file bytes v
+
 -- why there are no tokens: the first violation of class L, and then the bytes lex to nothing; or want of memory
 abbrev pub Refuses : ℕ → List ℕ → ModelError → Type 0
 Refuses file bytes (Broken v) = FirstLexical file bytes v × ((tokens : List Spanned) (comments : List Comment) → Lexes file bytes tokens comments → ⊥)
-Refuses file bytes NoMemory = Unit {0}
+Refuses file bytes (NoMemory met) = Unit {0}
 
 -- Which bytes a token is written as, and that its limit holds. A text's apostrophes stay as they are written.
 abbrev pub IsWritten : Token → List ℕ → Type 0

@@ -1,15 +1,16 @@
-ghost use Rattle.std.specs.Prelude.{◌≡◌, ℕ, ◌-◌, List, length, take};
+ghost use Rattle.std.specs.Prelude.{◌≡◌, ◌⊎◌, ℕ, ◌-◌, List, length, take};
 ghost use Rattle.og_base.specs.declared.Violation.{Violation};
 ghost use Rattle.og_lexer.specs.declared.Spanned.{Spanned};
 ghost use Rattle.og_lexer.specs.declared.Comment.{Comment};
 ghost use Rattle.og_lexer.specs.declared.front.Shape.{Shape};
 ghost use Rattle.og_lexer.specs.Pieces.{Stands, IsWithin};
 ghost use Rattle.og_lexer.specs.Front.{found, front_of};
-ghost use Rattle.og_lexer.specs.Texts.{Lexes, FirstLexical, tokens_from, comments_from};
+ghost use Rattle.og_lexer.specs.Texts.{Lexes, FirstLexical, IsText, IsBroken, tokens_from, comments_from};
 ghost use Rattle.og_lexer.specs.Examples.{PlacesCount, NumbersCount, FrontsStand, ViolationsStand};
 
-/// A text lexes in one way at most, or has one first violation of class L, and never both.
+/// Any bytes lex, in one way alone, or have a first violation of class L, which is one, and never both.
 pub fn one_reading()
+    ensures each { (file : ℕ) (bytes : List ℕ) → IsText file bytes ⊎ IsBroken file bytes }
     ensures tokens { (file : ℕ) (bytes : List ℕ) (tokens others : List Spanned) (comments more : List Comment) →
         Lexes file bytes tokens comments → Lexes file bytes others more → (tokens ≡ others) × (comments ≡ more) }
     ensures violation { (file : ℕ) (bytes : List ℕ) (v w : Violation) →

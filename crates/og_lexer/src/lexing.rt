@@ -9,7 +9,7 @@ use crate::front::{Front, Shape, front_of};
 use crate::scan::number_value;
 use crate::{Comment, Lexed, Spanned, Token};
 use og_base::{ModelError, Place, Violation};
-use og_names::Word;
+use og_names::{NoMemory, Word};
 use sqlite_items::Items;
 use std::alloc::Global;
 
@@ -70,11 +70,10 @@ fn keep(
     text: &[u8],
     place: Place,
     at: usize,
-) -> Result<(), ModelError>
+) -> Result<(), NoMemory>
     requires room { at + length text.now < 2 ^ 32 }
     requires form { IsOf shape text.now × IsWithin shape text.now }
-    ensures ok { OnOk result (GainsPiece lexed.old lexed.new shape text.now place at) }
-    ensures err { IfErr result (λ e. e ≡ ModelError.NoMemory) }
+    ensures { OnOk result (GainsPiece lexed.old lexed.new shape text.now place at) }
 {
     let start = at as u32;
     let end = (at + text.len()) as u32;
@@ -94,10 +93,9 @@ fn keep(
 }
 
 /// The token that a piece is.
-fn token_of(alloc: Global, shape: Shape, text: &[u8]) -> Result<Option<Token>, ModelError>
+fn token_of(alloc: Global, shape: Shape, text: &[u8]) -> Result<Option<Token>, NoMemory>
     requires { IsOf shape text.now × IsWithin shape text.now }
-    ensures ok { IfOk result (λ token. token ≡ token_of shape text.now) }
-    ensures err { IfErr result (λ e. e ≡ ModelError.NoMemory) }
+    ensures { IfOk result (λ token. token ≡ token_of shape text.now) }
 {
     let token = match shape {
         Shape::Space | Shape::BlockComment | Shape::DashComment | Shape::LineComment => {
@@ -112,24 +110,18 @@ fn token_of(alloc: Global, shape: Shape, text: &[u8]) -> Result<Option<Token>, M
     Ok(Some(token))
 }
 
-fn word(alloc: Global, bytes: &[u8]) -> Result<Word, ModelError>
-    ensures ok { IfOk result (λ word. word.bytes ≡ bytes.now) }
-    ensures err { IfErr result (λ e. e ≡ ModelError.NoMemory) }
+fn word(alloc: Global, bytes: &[u8]) -> Result<Word, NoMemory>
+    ensures { IfOk result (λ word. word.bytes ≡ bytes.now) }
 {
-    match Items::from_slice(alloc, bytes) {
-        Ok(bytes) => Ok(Word { bytes }),
-        Err(_) => Err(ModelError::NoMemory),
-    }
+    let bytes = Items::from_slice(alloc, bytes)?;
+    Ok(Word { bytes })
 }
 
-fn put<T: Drop>(items: &mut Items<T>, item: T) -> Result<(), ModelError>
-    ensures ok { OnOk result (items.new ≡ items.old ++ item ∷ []) }
-    ensures err { IfErr result (λ e. e ≡ ModelError.NoMemory) }
+fn put<T: Drop>(items: &mut Items<T>, item: T) -> Result<(), NoMemory>
+    ensures { OnOk result (items.new ≡ items.old ++ item ∷ []) }
 {
-    match items.push(item) {
-        Ok(()) => Ok(()),
-        Err(_) => Err(ModelError::NoMemory),
-    }
+    items.push(item)?;
+    Ok(())
 }
 
 /// The place behind these bytes, from the place of their first byte on.

@@ -1,8 +1,9 @@
 -- What the tree of every text keeps. Each number in it (of a name, a type, a signal, a timer, a variable, a procedure, a
 -- state, a body, a component, an alternative or an enumerator) names one that is there; each place is one in a text; each
--- first value is one of its type; each expression is built from its sorts; each procedure has a body to begin with, and its
--- parameters are the first of its variables. No rule of the language is asked here.
-use Rattle.std.specs.Prelude.{ℕ, zero, suc, Bool, true, false, not, ◌&&◌, ◌||◌, List, [], ◌∷◌, length, nat_lt, nat_eq, IsTrue, Option, Some, None}
+-- expression is built from its sorts; each procedure has a body to begin with, and its parameters are the first of its
+-- variables; there are fewer than 2^32 - 1 types. No rule of the language is asked here: that a first value is one of its type
+-- and that a NEXTSTATE stands in no procedure is asked in Rules. Where one stands there, its number names nothing.
+use Rattle.std.specs.Prelude.{ℕ, zero, suc, ◌-◌, ◌^◌, Bool, true, false, not, ◌&&◌, ◌||◌, List, [], ◌∷◌, length, nat_lt, nat_eq, IsTrue, Option, Some, None}
 use Rattle.std.specs.List.{list_all}
 use Rattle.std.specs.Char.{is_ascii_alphabetic, is_ascii_alphanumeric}
 use Rattle.og_names.specs.declared.NameId.{NameId}
@@ -10,7 +11,6 @@ use Rattle.og_types.specs.declared.TypeId.{TypeId}
 use Rattle.og_types.specs.declared.Part.{Part}
 use Rattle.og_types.specs.declared.Sort.{Sort}
 use Rattle.og_types.specs.declared.Sort.TheVariants as Sorts
-use Rattle.og_types.specs.Values.{is_in}
 use Rattle.og_types.specs.Table.{is_table, is_empty, same_name}
 use Rattle.og_model.specs.declared.Signal.{Signal}
 use Rattle.og_model.specs.declared.Variable.{Variable}
@@ -78,19 +78,19 @@ is_procedure M k = nat_lt k (length M.procs)
 
 -- ---- where a transition stands
 
--- how many states its scope has, none in a procedure; and the variables of its procedure, none outside
 abbrev pub data_of : Model → List Variable → Data
 data_of M locals = record { types = M.types; variables = M.variables; locals = locals }
 
+-- how many states its scope has, where it stands in a scope; and the variables of its procedure, none outside
 pub record Surroundings : Type 0 where
-  pub states : ℕ
+  pub states : Option ℕ
   pub locals : List Variable
 
 abbrev pub in_procedure : Proc → Surroundings
-in_procedure p = record { states = 0; locals = p.locals }
+in_procedure p = record { states = None; locals = p.locals }
 
 abbrev pub in_states : List StateDef → Surroundings
-in_states states = record { states = length states; locals = [] }
+in_states states = record { states = Some (length states); locals = [] }
 
 abbrev pub is_variable : Model → Surroundings → VarId → Bool
 is_variable M w (Process n) = nat_lt n (length M.variables)
@@ -127,7 +127,7 @@ abbrev pub is_step : Model → Surroundings → (Block → Bool) → Step → Bo
 is_step M w inner s = if_any (is_known M) s.label && (is_place s.place && is_action M w inner (out-Action s.action))
 
 abbrev pub is_end : Model → Surroundings → EndKind → Bool
-is_end M w (Ends.Next k entry) = nat_lt k w.states && if_any (is_known M) entry
+is_end M w (Ends.Next k entry) = if_any (nat_lt k) w.states && if_any (is_known M) entry
 is_end M w Ends.Dash = true
 is_end M w (Ends.Join label) = is_known M label
 is_end M w (Ends.Return exit result) = if_any (is_known M) exit && if_any (is_value M w) result
@@ -205,9 +205,8 @@ are_names_of M (Sorts.Sequence parts) = list_all (λ (p : Part). is_known M p.na
 are_names_of M (Sorts.Choice parts) = list_all (λ (p : Part). is_known M p.name) parts
 are_names_of M _ = true
 
--- the first value is one of the type
 abbrev pub is_declared : Model → Variable → Bool
-is_declared M v = is_known M v.name && (is_type M v.sort && is_in M.types v.sort v.initial)
+is_declared M v = is_known M v.name && is_type M v.sort
 
 abbrev pub is_declared_signal : Model → Signal → Bool
 is_declared_signal M s = is_known M s.name && list_all (is_type M) s.sorts
@@ -231,6 +230,7 @@ pub record IsResolved (M : Model) : Type 0 where
   pub names : IsTrue (list_all is_name M.names)
   pub process : IsTrue (is_known M M.name)
   pub types : IsTrue (is_table M.types)
+  pub few_types : IsTrue (nat_lt (length M.types) (2 ^ 32 - 1))
   pub type_names : IsTrue (list_all (are_names_of M) M.types)
   pub signals : IsTrue (list_all (is_declared_signal M) M.signals)
   pub timers : IsTrue (list_all (is_known M) M.timers)

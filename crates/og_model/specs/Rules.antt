@@ -1,12 +1,14 @@
 -- The rules of the language that a model keeps, as far as they can be broken by the forms that are compiled today; each is
 -- named by the letters and number under which a user sees it. Names are declared once (N2, after Z.101 section 6.3), a state
--- has one transition for each stimulus (A2, Z.101 section 11.2), and the process has a start (Z.101 section 11.1). That a
--- name has no two underscores together (N4) and the greatest numbers of states, signals and timers (M1, M2) are this
--- project's own.
+-- has one transition for each stimulus (A2, Z.101 section 11.2), a NEXTSTATE stands in no procedure (A10), the first value of
+-- a variable is one of its type (G2), and the process has a start (Z.101 section 11.1). That a name has no two underscores
+-- together (N4) and the greatest numbers of states, signals and timers (M1, M2) are this project's own. Of A10 and G2 no more
+-- is asked yet.
 use Rattle.std.specs.Prelude.{ℕ, zero, suc, Bool, true, false, not, ◌&&◌, ◌||◌, ◌≤◌, List, [], ◌∷◌, ◌++◌, length, map, nat_eq, slice_get, is_none, IsTrue, Option, Some, None}
 use Rattle.std.specs.List.{list_all, list_any}
 use Rattle.og_names.specs.declared.NameId.{NameId}
 use Rattle.og_types.specs.Table.{all_differ, same_name}
+use Rattle.og_types.specs.Values.{is_in}
 use Rattle.og_model.specs.declared.Signal.{Signal}
 use Rattle.og_model.specs.declared.Variable.{Variable}
 use Rattle.og_model.specs.declared.Branch.{Branch, out-Branch}
@@ -15,6 +17,8 @@ use Rattle.og_model.specs.declared.Block.{Block, out-Block, size-Block}
 use Rattle.og_model.specs.declared.Action.{Action, Action-F, out-Action}
 use Rattle.og_model.specs.declared.Action.TheOpen.{Decide}
 use Rattle.og_model.specs.declared.Ending.{Ending}
+use Rattle.og_model.specs.declared.EndKind.{EndKind}
+use Rattle.og_model.specs.declared.EndKind.TheVariants.{Next}
 use Rattle.og_model.specs.declared.Body.{Body}
 use Rattle.og_model.specs.declared.Proc.{Proc}
 use Rattle.og_model.specs.declared.Start.{Start}
@@ -58,6 +62,7 @@ is_plain_text None = true
 abbrev pub is_plain_name : Model → NameId → Bool
 is_plain_name M name = is_plain_text (slice_get M.names name.0)
 
+-- each block of a decision is such a one
 abbrev pub are_plain_in_action : (Block → Bool) → Action-F Action Block Branch Step → Bool
 are_plain_in_action inner (Decide question branches other) =
     list_all (λ b. inner (out-Branch b).block) branches && if_any inner other
@@ -94,6 +99,30 @@ same_trigger _ _ = false
 
 abbrev pub handlers_differ : List Handler → Bool
 handlers_differ handlers = all_differ (λ (h g : Handler). same_trigger h.trigger g.trigger) handlers
+
+-- ---- G2: first values outside their types
+
+abbrev pub begins_in_type : Model → Variable → Bool
+begins_in_type M v = is_in M.types v.sort v.initial
+
+abbrev pub begin_in_types : Model → Proc → Bool
+begin_in_types M p = list_all (begins_in_type M) p.locals
+
+-- ---- A10: NEXTSTATE in a procedure
+
+abbrev pub is_next_state : EndKind → Bool
+is_next_state (Next state entry) = true
+is_next_state _ = false
+
+-- no NEXTSTATE ends a block of at most this depth
+abbrev pub enters_none_within : ℕ → Block → Bool
+enters_none_within zero b = true
+enters_none_within (suc depth) b =
+    list_all (λ (s : Step). are_plain_in_action (enters_none_within depth) (out-Action s.action)) (out-Block b).steps
+    && if_any (λ (e : Ending). not (is_next_state e.kind)) (out-Block b).end
+
+abbrev pub enters_none : Proc → Bool
+enters_none p = list_all (λ (b : Body). enters_none_within (size-Block b.block) b.block) p.bodies
 
 -- ---- scopes
 
@@ -132,6 +161,9 @@ pub record KeepsRules (M : Model) : Type 0 where
   pub plain_signals : IsTrue (list_all (is_plain_name M) (signal_names M))
   pub plain_variables : IsTrue (list_all (λ (v : Variable). is_plain_name M v.name) M.variables)
   pub plain_procedures : IsTrue (list_all (is_plain_procedure M) M.procs)
+  pub first_values : IsTrue (list_all (begins_in_type M) M.variables)
+  pub first_values_of_procedures : IsTrue (list_all (begin_in_types M) M.procs)
+  pub procedures_enter_none : IsTrue (list_all enters_none M.procs)
   pub scopes : IsTrue (keeps_in_scope M M.root)
   pub start : IsTrue (has_unnamed_start M.root)
   pub few_states : states_and_partitions M ≤ 1000

@@ -210,6 +210,19 @@ first_value_outside = record with_data {
       ∷ record { name = name 3; sort = sort 1; initial = Values.SeqOf [] } ∷ [];
 }
 
+-- a procedure that ends with NEXTSTATE
+abbrev pub entering_procedure : Model
+entering_procedure = record with_data {
+  procs = record {
+    name = name 4;
+    place = at 1 1;
+    result = None;
+    formals = [];
+    locals = [];
+    bodies = body [] (next 7) ∷ [];
+  } ∷ [];
+}
+
 -- ---- regions
 
 abbrev pub path : List ℕ → List NameId

@@ -3,10 +3,11 @@
 ghost use Rattle.std.specs.Prelude.{◌≡◌, ◌+◌, ◌*◌, List, [], ◌∷◌, true, false};
 ghost use Rattle.og_model.specs.RegionTypes.{Leaf, Region};
 ghost use Rattle.og_model.specs.Regions.{regions};
+ghost use Rattle.og_model.specs.Resolved.{IsResolved};
 ghost use Rattle.og_model.specs.Size.{bulk, inlined};
 ghost use Rattle.og_model.specs.WellFormed.{IsWellFormed};
 ghost use Rattle.og_model.specs.Forms.{UsesBasicStatesOnly};
-ghost use Rattle.og_model_examples.specs.Sample.{double_underscore, first_value_outside, nested, state_not_there, twice_handled, two_states, with_data, without_start, leaf, region};
+ghost use Rattle.og_model_examples.specs.Sample.{double_underscore, entering_procedure, first_value_outside, nested, state_not_there, twice_handled, two_states, with_data, without_start, leaf, region};
 
 /// Two basic states are two leaves of one region.
 pub fn regions_of_two_states()
@@ -86,6 +87,13 @@ pub fn processes_have_a_start()
 /// A first value outside its type is not accepted.
 pub fn first_values_are_in_their_types()
     ensures { IsWellFormed first_value_outside → ⊥ }
+{}
+
+/// The trees of texts may break rules: by a first value outside its type, and by NEXTSTATE in a procedure, whatever its number.
+pub fn trees_ask_no_rule()
+    ensures first_value { IsResolved first_value_outside }
+    ensures next_state { IsResolved entering_procedure }
+    ensures refused { IsWellFormed entering_procedure → ⊥ }
 {}
 
 /// States in states and data are further forms.

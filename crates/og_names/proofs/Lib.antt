@@ -1,2 +1,4 @@
 pub mod Places
 pub mod Tables
+pub mod Truths
+pub mod Loops

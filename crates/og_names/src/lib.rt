@@ -10,12 +10,9 @@ pub use laws::{
     absent_names_have_none, earlier_numbers_stay, folding_twice, numbers_lead_back,
     one_number_for_one_name,
 };
+pub use memory::NoMemory;
 pub use names::Names;
 use sqlite_items::Items;
-
-/// Memory could not be had.
-#[derive(Clone, Copy, Debug, PartialEq, Eq)]
-pub struct NoMemory;
 
 /// The number of a folded name in a table of names, counted from 0.
 #[derive(Clone, Copy, Debug, PartialEq, Eq)]
@@ -26,4 +23,3 @@ pub struct NameId(pub u32);
 pub struct Word {
     pub bytes: Items<u8>,
 }
-

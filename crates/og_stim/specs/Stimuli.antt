@@ -2,7 +2,7 @@
 -- more than 65,536 bytes; Q1, a line of no form; Q2, a name that is no incoming signal and no timer of the model. A line that
 -- is blank or a comment is skipped, but counts. Every other line is one name, with blanks free around it. TRUE and FALSE in
 -- capitals are no names. Names are folded, as in the model. The form of stimuli files is this project's own.
-use Rattle.std.specs.Prelude.{◌≡◌, ℕ, ◌+◌, Bool, false, List, [], ◌∷◌, if◌then◌else◌, ◌&&◌, ◌||◌, ◌==◌, not, nat_lt, length, take, drop, codes, Option, Some, None, Result, Ok, Err}
+use Rattle.std.specs.Prelude.{◌≡◌, ℕ, ◌+◌, ◌-◌, Bool, false, List, [], ◌∷◌, if◌then◌else◌, ◌&&◌, ◌||◌, ◌==◌, not, nat_lt, length, take, drop, codes, Option, Some, None, Result, Ok, Err}
 use Rattle.std.specs.Char.{is_ascii_alphabetic, is_ascii_alphanumeric}
 use Rattle.std.specs.List.{list_all, prefix_len}
 use Rattle.std.specs.Str.{bytes_eq}
@@ -115,6 +115,11 @@ abbrev pub next_in : Model → ℕ → List (List ℕ) → Next
 next_in M n [] = AtEnd
 next_in M n (line ∷ lines) = next_by (judged M (n + 1) line) (n + 1) lines (next_in M (n + 1) lines)
 
+-- how many lines come before this offset, where the cursor tells how many come before itself: all that there are less those
+-- from the offset on
+abbrev pub line_at : List ℕ → Cursor → ℕ → ℕ
+line_at text cursor offset = cursor.line + length (lines_of (drop cursor.offset text)) - length (lines_of (drop offset text))
+
 -- what a call answers, and where it leaves the cursor
 abbrev pub IsNext : Model → List ℕ → Cursor → Cursor → Option Stimulus → Type 0
 IsNext M text old new None = (new.offset ≡ length text) × (next_in M old.line (lines_of (drop old.offset text)) ≡ AtEnd)
@@ -124,4 +129,4 @@ IsNext M text old new (Some x) =
 abbrev pub IsBadLine : Model → List ℕ → Cursor → Cursor → StimError → Type 0
 IsBadLine M text old new (error.Bad line r) =
     (new ≡ old) × (next_in M old.line (lines_of (drop old.offset text)) ≡ Bad line r)
-IsBadLine M text old new error.NoMemory = new ≡ old
+IsBadLine M text old new (error.NoMemory met) = new ≡ old

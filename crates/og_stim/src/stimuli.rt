@@ -1,10 +1,10 @@
 //! The next stimulus of a file.
 ghost use Rattle.std.specs.Prelude.{◌≡◌, ◌≤◌, ◌+◌, length, Some, IfOk, IfErr};
-ghost use Rattle.og_stim.specs.Stimuli.{judged, known_or_unknown, stimulus_named, numbered, signal_from, timer_from, IsNext, IsBadLine};
+ghost use Rattle.og_stim.specs.Stimuli.{judged, known_or_unknown, stimulus_named, numbered, signal_from, timer_from, line_at, IsNext, IsBadLine};
 
 use crate::lines::{first_line, is_skipped, name_in};
 use og_model::{Model, Signal, StimId};
-use og_names::NameId;
+use og_names::{NameId, NoMemory};
 use og_types::Value;
 use sqlite_items::Items;
 use std::alloc::Global;
@@ -37,7 +37,7 @@ pub enum StimRule {
 #[derive(Clone, Copy, Debug, PartialEq, Eq)]
 pub enum StimError {
     Bad { line: u32, rule: StimRule },
-    NoMemory,
+    NoMemory(NoMemory),
 }
 
 /// The most lines that a file may have, and the most bytes that a line may have.
@@ -45,8 +45,8 @@ const LINES: u32 = 1000000;
 
 const BYTES: usize = 65536;
 
-/// The next stimulus of the text, or nothing at its end, where the cursor then stands. Blank lines and comments are passed over, and counted. After a bad line the cursor
-/// stays.
+/// The next stimulus of the text, or nothing at its end, where the cursor then stands. Blank lines and comments are passed
+/// over, and counted. After a bad line the cursor stays.
 pub fn next_stimulus(
     alloc: Global,
     model: &Model,
@@ -58,6 +58,7 @@ pub fn next_stimulus(
     requires inside { cursor.old.offset ≤ length text.now }
     requires few_lines { cursor.old.line ≤ 1000000 }
     ensures next { IfOk result (IsNext model.now text.now cursor.old cursor.new) }
+    ensures line { IfOk result (λ _. cursor.new.line ≡ line_at text.now cursor.old cursor.new.offset) }
     ensures bad { IfErr result (IsBadLine model.now text.now cursor.old cursor.new) }
     ensures inside { cursor.new.offset ≤ length text.now }
     ensures few_lines { cursor.new.line ≤ 1000000 }

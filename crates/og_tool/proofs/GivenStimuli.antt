@@ -21,29 +21,7 @@ use Rattle.og_trace.specs.declared.Outcome.{Outcome}
 use Rattle.og_trace.specs.declared.Outcome.TheVariants as outcome
 use Rattle.og_trace.specs.Stims.{BadLine, Stims, stims_in, stims_of, line_first, given, given_first}
 use Rattle.og_trace.specs.Traces.{outcome_by, outcome_of, at_file_end, run_outcome, shown_over_file}
-
-same_some : {A : Type 0} (x y : A) → Some x ≡ Some y → x ≡ y
-same_some x y e = cc
-
-both_true : (a b : Bool) → a ≡ true → b ≡ true → (a && b) ≡ true
-both_true true b p q = q
-both_true false b p q = p
-
-and_first : (a b : Bool) → (a && b) ≡ true → a ≡ true
-and_first true b e = refl
-and_first false b e = e
-
-and_second : (a b : Bool) → (a && b) ≡ true → b ≡ true
-and_second true b e = e
-and_second false b e = absurd (let h : false ≡ true = e in cc)
-
-or_first : (a b : Bool) → (a || b) ≡ false → a ≡ false
-or_first true b e = e
-or_first false b e = refl
-
-or_second : (a b : Bool) → (a || b) ≡ false → b ≡ false
-or_second true b e = absurd (let h : true ≡ false = e in cc)
-or_second false b e = e
+use Rattle.og_names.proofs.Truths.{both_first as and_first, both_second as and_second, both_true, neither_first as or_first, neither_second as or_second, same_value as same_some}
 
 -- ---- a stimulus by its name
 

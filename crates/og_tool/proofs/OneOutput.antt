@@ -21,6 +21,7 @@ use Rattle.og_tool.specs.Programs.{IsTextOfProgram, IsBadFor, bad_program_line}
 use Rattle.og_tool.specs.Words.{Command, Compile, Run, Simulate}
 use Rattle.og_front.proofs.OneAnswer.{OneText, OneLexical, Apart, same_system, never_both, one_first}
 use Rattle.og_tool.proofs.ProgramParts.{OneProgram, NotDeep, NotBad}
+use Rattle.og_names.proofs.Truths.{same_value as same_some}
 
 -- what the laws of texts say
 pub record Laws : Type 0 where
@@ -33,9 +34,6 @@ pub record Laws : Type 0 where
   pub not_both : (limit : ℕ) (text before other : List ℕ) → IsTooDeep limit text before → IsBad limit text other → ⊥
   pub one_deep : (limit : ℕ) (text before other : List ℕ) → PassesNesting limit text before → PassesNesting limit text other → before ≡ other
   pub one_wrong : (text before other : List ℕ) → GoesWrong text before → GoesWrong text other → before ≡ other
-
-same_some : {A : Type 0} (x y : A) → Some x ≡ Some y → x ≡ y
-same_some x y e = cc
 
 -- ---- what was read
 

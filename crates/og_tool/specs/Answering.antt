@@ -22,12 +22,12 @@ use Rattle.og_tool.specs.Words.{Command}
 -- the error is the first violation of the bytes, or want of memory
 abbrev pub IsFirst : List ℕ → ModelError → Type 0
 IsFirst bytes (error.Broken v) = FirstViolation bytes v
-IsFirst bytes error.NoMemory = Unit {0}
+IsFirst bytes (error.NoMemory met) = Unit {0}
 
 -- the error is the first violation of the rules on names, states and limits, or want of memory
 abbrev pub IsFirstOfRules : SystemText → ModelError → Type 0
 IsFirstOfRules system (error.Broken v) = first_of_rules system ≡ Some v
-IsFirstOfRules system error.NoMemory = Unit {0}
+IsFirstOfRules system (error.NoMemory met) = Unit {0}
 
 -- the tree keeps the rules, and this is its model
 pub record IsBuiltFrom (system : SystemText) (model : Model) : Type 0 where

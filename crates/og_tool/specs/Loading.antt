@@ -36,7 +36,7 @@ pub record Agrees (model : Model) (machine : Loaded) : Type 0 where
 
 abbrev pub TellsProgram : Model → List ℕ → ProgramError → Type 0
 TellsProgram model bytes (Bad bad) = IsBadFor model bytes bad
-TellsProgram model bytes NoMemory = Unit {0}
+TellsProgram model bytes (NoMemory met) = Unit {0}
 
 -- an error of the text is one whatever the model is
 abbrev pub TellsForm : List ℕ → ProgramError → Type 0
@@ -47,4 +47,4 @@ abbrev pub TellsRule : CProgram → Model → ProgramError → Type 0
 TellsRule program model (Bad (NoForm place)) = ⊥
 TellsRule program model (Bad (TooDeep place)) = ⊥
 TellsRule program model (Bad (Breaks rule)) = first_load_rule program model ≡ Some rule
-TellsRule program model NoMemory = Unit {0}
+TellsRule program model (NoMemory met) = Unit {0}

@@ -36,14 +36,14 @@ pub enum BadProgram {
 #[derive(Clone, Copy, Debug, PartialEq, Eq)]
 pub enum ProgramError {
     Bad(BadProgram),
-    NoMemory,
+    NoMemory(NoMemory),
 }
 
 impl From<NoMemory> for ProgramError {
-    ghost from_gives = { λ _ error. error ≡ OutOfMemory };
+    ghost from_gives = { λ met error. error ≡ OutOfMemory met };
 
-    fn from(_error: NoMemory) -> ProgramError {
-        ProgramError::NoMemory
+    fn from(met: NoMemory) -> ProgramError {
+        ProgramError::NoMemory(met)
     }
 }
 
@@ -67,7 +67,7 @@ fn read_program(alloc: Global, bytes: &[u8]) -> Result<CProgram, ProgramError>
         Ok(program) => Ok(program),
         Err(CReadError::Bad(place)) => Err(ProgramError::Bad(BadProgram::NoForm(place))),
         Err(CReadError::TooDeep(place)) => Err(ProgramError::Bad(BadProgram::TooDeep(place))),
-        Err(CReadError::NoMemory) => Err(ProgramError::NoMemory),
+        Err(CReadError::NoMemory(met)) => Err(ProgramError::NoMemory(met)),
     }
 }
 
@@ -80,7 +80,7 @@ fn load(alloc: Global, program: &CProgram, model: &Model) -> Result<Loaded, Prog
     match Machine::load(alloc, program, model, &regions) {
         Ok(machine) => Ok(Loaded { machine, regions }),
         Err(LoadError::BadProgram(rule)) => Err(ProgramError::Bad(BadProgram::Breaks(rule))),
-        Err(LoadError::NoMemory) => Err(ProgramError::NoMemory),
+        Err(LoadError::NoMemory(met)) => Err(ProgramError::NoMemory(met)),
     }
 }
 
@@ -93,7 +93,7 @@ pub fn load_compiled(alloc: Global, text: &[u8], model: &Model) -> Result<Loaded
     one_answer();
     match load_text(alloc, text, model) {
         Ok(loaded) => Ok(loaded),
-        Err(ProgramError::NoMemory) => Err(NoMemory),
+        Err(ProgramError::NoMemory(met)) => Err(met),
         Err(ProgramError::Bad(_)) => unreachable!(),
     }
 }

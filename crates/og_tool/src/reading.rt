@@ -42,20 +42,16 @@ pub fn read_model<S: Store>(
     let bytes = read_all(alloc, store, file, LIMIT)?;
     match model_of_bytes(alloc, &bytes) {
         Ok(model) => Ok(ModelFile::Accepted(model)),
-        Err(ModelError::NoMemory) => Err(ReadError::NoMemory),
-        Err(ModelError::Broken(violation)) => refused(alloc, file.as_bytes(), violation),
+        Err(ModelError::NoMemory(met)) => Err(ReadError::NoMemory(met)),
+        Err(ModelError::Broken(violation)) => Ok(refused(alloc, file.as_bytes(), violation)?),
     }
 }
 
 /// The line that names the violation.
-fn refused(alloc: Global, file: &[u8], violation: Violation) -> Result<ModelFile, ReadError>
-    ensures line { IfOk result (IsRefusal (line_of file.now violation)) }
-    ensures no_memory { IfErr result (λ error. error ≡ ReadError.NoMemory) }
+fn refused(alloc: Global, file: &[u8], violation: Violation) -> Result<ModelFile, NoMemory>
+    ensures { IfOk result (IsRefusal (line_of file.now violation)) }
 {
-    match report_line(alloc, file, violation) {
-        Ok(line) => Ok(ModelFile::Refused(line)),
-        Err(NoMemory) => Err(ReadError::NoMemory),
-    }
+    Ok(ModelFile::Refused(report_line(alloc, file, violation)?))
 }
 
 /// The model of an accepted file, or its first violation.
@@ -67,7 +63,7 @@ fn model_of_bytes(alloc: Global, bytes: &[u8]) -> Result<Model, ModelError>
     let lexed = lex_sdl(alloc, 0, bytes)?;
     let tokens = lexed.tokens.as_slice();
     match parse_system(alloc, tokens) {
-        Err(ParseError::NoMemory) => Err(ModelError::NoMemory),
+        Err(ParseError::NoMemory(met)) => Err(ModelError::NoMemory(met)),
         Err(ParseError::NoSentence) => Err(no_sentence(tokens)),
         Ok(system) => model_of_system(alloc, &system),
     }
@@ -86,7 +82,7 @@ fn model_of_system(alloc: Global, system: &SystemText) -> Result<Model, ModelErr
     }
     match model_of(alloc, system, &tables) {
         Ok(model) => Ok(model),
-        Err(NoMemory) => Err(ModelError::NoMemory),
+        Err(met) => Err(ModelError::NoMemory(met)),
     }
 }
 

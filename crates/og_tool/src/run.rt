@@ -77,7 +77,7 @@ fn carry_out<S: Store, K: Sink>(
     match output_of(alloc, command, store) {
         Err(ReadError::Fault) => Status::ReadFault,
         Err(ReadError::TooLarge) => Status::TooLarge,
-        Err(ReadError::NoMemory) => Status::NoMemory,
+        Err(ReadError::NoMemory(_)) => Status::NoMemory,
         Ok(output) => match write_all(out, &output.text) {
             Ok(()) => output.status,
             Err(_) => Status::WriteFault,

@@ -1,5 +1,5 @@
 //! Runs of programs over models and files of stimuli.
-ghost use Rattle.std.specs.Prelude.{◌≡◌, ℕ, ◌≤◌, List, length, IfOk, IfErr, IsErrOf};
+ghost use Rattle.std.specs.Prelude.{◌≡◌, ℕ, ◌≤◌, List, length, IfOk, IsErrOf};
 ghost use Rattle.og_base.specs.Store.{HoldsMore};
 ghost use Rattle.og_cstep.specs.Machines.{run_of};
 ghost use Rattle.og_trace.specs.Traces.{run_text, run_outcome};
@@ -74,24 +74,21 @@ fn run_over_model<S: Store>(
     let bytes = read_all(alloc, store, program, LIMIT)?;
     match load_text(alloc, &bytes, model) {
         Ok(loaded) => run_loaded(alloc, store, loaded, model, file, stimuli, steps),
-        Err(ProgramError::Bad(bad)) => bad_program(alloc, program.as_bytes(), bad),
-        Err(ProgramError::NoMemory) => Err(ReadError::NoMemory),
+        Err(ProgramError::Bad(bad)) => Ok(bad_program(alloc, program.as_bytes(), bad)?),
+        Err(ProgramError::NoMemory(met)) => Err(ReadError::NoMemory(met)),
     }
 }
 
 /// The line that says what is wrong with the program's file.
-fn bad_program(alloc: Global, file: &[u8], bad: BadProgram) -> Result<Output, ReadError>
+fn bad_program(alloc: Global, file: &[u8], bad: BadProgram) -> Result<Output, NoMemory>
     ensures status { IfOk result (λ output. output.status ≡ Status.BadFile) }
     ensures line { IfOk result (λ output. output.text.items ≡ line_of file.now bad) }
-    ensures no_memory { IfErr result (λ error. error ≡ ReadError.NoMemory) }
 {
-    match bad_program_line(alloc, file, bad) {
-        Ok(text) => Ok(Output {
-            status: Status::BadFile,
-            text,
-        }),
-        Err(NoMemory) => Err(ReadError::NoMemory),
-    }
+    let text = bad_program_line(alloc, file, bad)?;
+    Ok(Output {
+        status: Status::BadFile,
+        text,
+    })
 }
 
 /// `sim`: the model file is read and compiled, and the program of its C runs over the stimuli, which are read whole.
@@ -167,7 +164,7 @@ fn run_loaded<S: Store>(
         steps,
     ) {
         Ok(output) => Ok(output),
-        Err(NoMemory) => Err(ReadError::NoMemory),
+        Err(met) => Err(ReadError::NoMemory(met)),
     }
 }
 

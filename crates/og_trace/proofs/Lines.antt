@@ -4,7 +4,6 @@ use Rattle.std.specs.Prelude.{IsTrue, nat_lt}
 use Rattle.std.proofs.lemmas.Bool.{lt-ltb}
 use Rattle.std.proofs.lemmas.List.{append_assoc, append-nil}
 use Rattle.std.proofs.lemmas.Option.{slice_get_within}
-use Rattle.og_ir.proofs.ValueCells.{left_of}
 use Rattle.og_names.specs.declared.NameId.{NameId}
 use Rattle.og_model.specs.declared.Model.{Model}
 use Rattle.og_model.specs.declared.Signal.{Signal}
@@ -21,6 +20,7 @@ use Rattle.og_stim.specs.Lines.{lines_of, is_skipped}
 use Rattle.og_stim.specs.Stimuli.{judged, by_name, known_or_unknown, numbered, or_timer, signal_from, timer_from, stimulus_named, name_in, Next, AtEnd, Stands, Bad, next_by, next_in, IsNext, IsBadLine}
 use Rattle.og_trace.specs.Entries.{AreStimuli}
 use Rattle.og_trace.specs.Stims.{BadLine, Stims, line_first, stims_in, stims_of, given, given_first}
+use Rattle.og_names.proofs.Truths.{both_first as left_of}
 
 -- ---- one call after the other
 
@@ -196,4 +196,4 @@ at_stimulus M text old new (Some y) x some is =
 pub at_bad : (M : Model) (text : List ℕ) (old new : Cursor) (e : StimError) (line : ℕ) (r : StimRule) → e ≡ error.Bad line r → IsBadLine M text old new e
     → next_in M old.line (lines_of (drop old.offset text)) ≡ Bad line r
 at_bad M text old new (error.Bad n q) line r same is = is.1 ∙ cc
-at_bad M text old new error.NoMemory line r same is = absurd (cc)
+at_bad M text old new (error.NoMemory met) line r same is = absurd (cc)

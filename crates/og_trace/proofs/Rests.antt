@@ -5,7 +5,6 @@ use Rattle.std.specs.List.{flat_map, list_all}
 use Rattle.std.proofs.lemmas.Bool.{lt-ltb}
 use Rattle.std.proofs.lemmas.List.{map-append}
 use Rattle.std.proofs.lemmas.Option.{slice_get_within}
-use Rattle.og_ir.proofs.ValueCells.{left_of, right_of}
 use Rattle.og_names.specs.declared.NameId.{NameId}
 use Rattle.og_names.specs.declared.Word.{Word}
 use Rattle.og_types.specs.declared.Value.{Value}
@@ -34,6 +33,7 @@ use Rattle.og_cstep.specs.Machines.{Run, active_leaf, leaf_of, globals_of}
 use Rattle.og_stim.specs.Trace.{path_of, path_in, leaf_path, line, state_line, timer_lines, end_lines, fault_line}
 use Rattle.og_trace.specs.Entries.{end_at, HasCells}
 use Rattle.og_trace.specs.Leaves.{if_basic, leaf_in, leaves_from, end_seen}
+use Rattle.og_names.proofs.Truths.{both_first as left_of, both_second as right_of}
 
 -- ---- what an end is read from
 

@@ -5,7 +5,6 @@ use Rattle.std.specs.List.{flat_map, list_all}
 use Rattle.std.proofs.lemmas.List.{append_assoc, append-nil}
 use Rattle.std.proofs.lemmas.Grind.{flat_map-append}
 use Rattle.og_ir.proofs.Runs.{exec_stays}
-use Rattle.og_ir.proofs.ValueCells.{left_of, right_of}
 use Rattle.og_types.specs.Table.{is_empty}
 use Rattle.og_types.specs.declared.TypeId.{TypeId}
 use Rattle.og_model.specs.declared.Model.{Model}
@@ -35,6 +34,7 @@ use Rattle.og_stim.specs.Trace.{Bytes, event_line}
 use Rattle.og_csubset.specs.Run.{c_machine}
 use Rattle.og_trace.specs.Entries.{event_seen, answer_lines, end_at, is_end, IsLive, HasCells, IsLast, StandsAt}
 use Rattle.og_trace.proofs.Rests.{IsRead, end_is_read}
+use Rattle.og_names.proofs.Truths.{both_first as left_of, both_second as right_of}
 
 -- ---- what one statement shows
 

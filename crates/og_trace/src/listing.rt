@@ -44,7 +44,7 @@ pub fn stimuli_of(alloc: Global, model: &Model, text: &[u8]) -> Result<Listed, N
                     bad: Some(Bad { line, rule }),
                 });
             }
-            Err(StimError::NoMemory) => return Err(NoMemory),
+            Err(StimError::NoMemory(met)) => return Err(met),
         }
     }
 }

@@ -6,14 +6,7 @@ use Rattle.og_types.specs.declared.Sort.{Sort}
 use Rattle.og_types.specs.declared.Sort.TheVariants as Sorts
 use Rattle.og_types.specs.Values.{PartsBelow, RefersBelow, IsDownward}
 use Rattle.og_types.specs.Table.{is_sort_after, are_sorts_from, is_table}
-
-both_left : (a b : Bool) → (a && b) ≡ true → a ≡ true
-both_left true b e = refl
-both_left false b e = e
-
-both_right : (a b : Bool) → (a && b) ≡ true → b ≡ true
-both_right true b e = e
-both_right false b e = absurd (true≢false (sym e))
+use Rattle.og_names.proofs.Truths.{both_first as both_left, both_second as both_right}
 
 is_below : (a b : ℕ) → nat_lt a b ≡ true → a < b
 is_below a b e = ltb-true a b e

@@ -3,7 +3,7 @@ use Rattle.og_csubset.specs.declared.CMember.{CMember}
 use Rattle.og_csubset.specs.Kinds.{blank_within, sized}
 use Rattle.og_ir.specs.Cells.{row}
 use Rattle.og_ccells.specs.Trees.{cells_of}
-use Rattle.og_cload.proofs.Loops.{left_all}
+use Rattle.og_names.proofs.Loops.{left_all}
 use Rattle.og_cload.proofs.Grown.{none}
 use Rattle.og_ccells.proofs.Celled.{cells_Row}
 use Rattle.og_ccells.proofs.cells.+blank.Goals as goal

@@ -2,7 +2,7 @@ use Rattle.std.proofs.Common.{◌≡◌, ◌++◌, ◌+◌, ◌*◌, map, replic
 use Rattle.og_csubset.specs.declared.CMember.{CMember}
 use Rattle.og_csubset.specs.Kinds.{blank_within, sized}
 use Rattle.og_ccells.specs.Trees.{cells_of}
-use Rattle.og_cload.proofs.Loops.{Left}
+use Rattle.og_names.proofs.Loops.{Left}
 use Rattle.og_ccells.proofs.cells.+blank.Given as goal
 
 abbrev pub invariant-blank_members-loop-member : goal.invariant-blank_members-loop-member

@@ -2,7 +2,7 @@ use Rattle.std.proofs.Common.{◌≡◌, ◌++◌, ◌+◌, ◌*◌, map, replic
 use Rattle.og_types.specs.declared.Part.{Part}
 use Rattle.og_ir.specs.Reading.{blank_within}
 use Rattle.og_ccells.specs.Trees.{cells_of}
-use Rattle.og_cload.proofs.Loops.{Left}
+use Rattle.og_names.proofs.Loops.{Left}
 use Rattle.og_ccells.proofs.write.+zero.Given as goal
 
 abbrev pub invariant-zero_parts-loop-part : goal.invariant-zero_parts-loop-part

@@ -1,5 +1,5 @@
 use Rattle.og_clink.specs.Meaning.{place_of_case}
-use Rattle.og_cload.proofs.Loops.{Left}
+use Rattle.og_names.proofs.Loops.{Left}
 use Rattle.og_clink.proofs.effect.place_of_case.Given as goal
 
 abbrev pub invariant-loop-case : goal.invariant-loop-case

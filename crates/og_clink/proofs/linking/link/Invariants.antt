@@ -1,6 +1,6 @@
 use Rattle.std.proofs.Common.{◌++◌, map}
 use Rattle.og_clink.specs.Resolved.{body_of}
-use Rattle.og_cload.proofs.Loops.{Left}
+use Rattle.og_names.proofs.Loops.{Left}
 use Rattle.og_clink.proofs.linking.link.Given as goal
 
 abbrev pub invariant-loop-function : goal.invariant-loop-function

@@ -1,7 +1,7 @@
 use Rattle.std.proofs.Common.{◌++◌}
 use Rattle.std.specs.Option.{option_map}
 use Rattle.og_cload.specs.Held.{kind_of}
-use Rattle.og_cload.proofs.Loops.{Left}
+use Rattle.og_names.proofs.Loops.{Left}
 use Rattle.og_clink.specs.Resolved.{path_of}
 use Rattle.og_clink.proofs.resolving.+resolving.Given as goal
 

@@ -1,6 +1,6 @@
 use Rattle.std.proofs.Common.{◌++◌, map}
 use Rattle.og_clink.specs.Resolved.{case_of}
-use Rattle.og_cload.proofs.Loops.{Left}
+use Rattle.og_names.proofs.Loops.{Left}
 use Rattle.og_clink.proofs.resolving.cases_of.Given as goal
 
 abbrev pub invariant-loop-case : goal.invariant-loop-case

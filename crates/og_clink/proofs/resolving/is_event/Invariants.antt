@@ -1,7 +1,7 @@
 use Rattle.std.proofs.Common.{map}
 use Rattle.og_names.specs.declared.Word.{Word}
 use Rattle.og_csubset.specs.Kinds.{is_in}
-use Rattle.og_cload.proofs.Loops.{Left}
+use Rattle.og_names.proofs.Loops.{Left}
 use Rattle.og_clink.proofs.resolving.is_event.Given as goal
 
 abbrev pub invariant-loop-event : goal.invariant-loop-event

@@ -2,7 +2,7 @@ use Rattle.std.proofs.Common.{map}
 use Rattle.og_csubset.specs.declared.CFunction.{CFunction}
 use Rattle.og_csubset.specs.Kinds.{place_in}
 use Rattle.og_cload.proofs.Places.{place_from}
-use Rattle.og_cload.proofs.Loops.{Left}
+use Rattle.og_names.proofs.Loops.{Left}
 use Rattle.og_clink.proofs.resolving.place_of_function.Given as goal
 
 abbrev pub invariant-loop-place : goal.invariant-loop-place

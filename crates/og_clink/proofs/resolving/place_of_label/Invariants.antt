@@ -1,5 +1,5 @@
 use Rattle.og_csubset.specs.Step.{label_in}
-use Rattle.og_cload.proofs.Loops.{Left}
+use Rattle.og_names.proofs.Loops.{Left}
 use Rattle.og_clink.proofs.Numbered.{label_from}
 use Rattle.og_clink.proofs.resolving.place_of_label.Given as goal
 

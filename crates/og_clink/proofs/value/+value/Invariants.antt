@@ -1,7 +1,7 @@
 use Rattle.std.proofs.Common.{map}
 use Rattle.og_ccells.specs.Trees.{cells_of}
 use Rattle.og_clink.specs.Meaning.{all_selected, selected}
-use Rattle.og_cload.proofs.Loops.{Left}
+use Rattle.og_names.proofs.Loops.{Left}
 use Rattle.og_clink.proofs.Valued.{prefixed}
 use Rattle.og_clink.proofs.value.+value.Given as goal
 

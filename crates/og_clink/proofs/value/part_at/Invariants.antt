@@ -1,6 +1,6 @@
 use Rattle.og_ir.specs.Cells.{part_at}
 use Rattle.og_ccells.specs.Trees.{cells_of}
-use Rattle.og_cload.proofs.Loops.{Left}
+use Rattle.og_names.proofs.Loops.{Left}
 use Rattle.og_clink.proofs.value.part_at.Given as goal
 
 abbrev pub invariant-loop-place : goal.invariant-loop-place

@@ -2,7 +2,7 @@ use Rattle.std.proofs.Common.{◌++◌}
 use Rattle.std.specs.List.{flat_map}
 use Rattle.og_cload.specs.Fields.{fields_in}
 use Rattle.og_csubset.specs.Interface as interface
-use Rattle.og_cload.proofs.Loops.{Left}
+use Rattle.og_names.proofs.Loops.{Left}
 use Rattle.og_cload.proofs.fields.add_all_inputs.Given as goal
 
 abbrev pub invariant-loop-signal : goal.invariant-loop-signal

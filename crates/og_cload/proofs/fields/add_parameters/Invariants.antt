@@ -1,7 +1,7 @@
 use Rattle.std.proofs.Common.{◌+◌, ◌++◌}
 use Rattle.og_cload.specs.Fields.{fields_in}
 use Rattle.og_csubset.specs.Interface as interface
-use Rattle.og_cload.proofs.Loops.{Left}
+use Rattle.og_names.proofs.Loops.{Left}
 use Rattle.og_cload.proofs.fields.add_parameters.Given as goal
 
 abbrev pub invariant-loop-place : goal.invariant-loop-place

@@ -3,7 +3,7 @@ use Rattle.std.specs.List.{list_all}
 use Rattle.og_csubset.specs.Kinds.{is_in}
 use Rattle.og_csubset.specs.Interface as interface
 use Rattle.og_names.specs.declared.Word.{Word}
-use Rattle.og_cload.proofs.Loops.{Left}
+use Rattle.og_names.proofs.Loops.{Left}
 use Rattle.og_cload.proofs.interface.are_events.Given as goal
 
 abbrev pub invariant-loop-name : goal.invariant-loop-name

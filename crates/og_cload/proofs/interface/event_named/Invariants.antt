@@ -1,5 +1,5 @@
 use Rattle.og_csubset.specs.Reads.{event_named}
-use Rattle.og_cload.proofs.Loops.{Left}
+use Rattle.og_names.proofs.Loops.{Left}
 use Rattle.og_cload.proofs.interface.event_named.Given as goal
 
 abbrev pub invariant-loop-event : goal.invariant-loop-event

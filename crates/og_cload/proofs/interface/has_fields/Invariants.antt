@@ -1,6 +1,6 @@
 use Rattle.std.specs.List.{list_all}
 use Rattle.og_cload.specs.Fields.{fields_in, has_field_over}
-use Rattle.og_cload.proofs.Loops.{Left}
+use Rattle.og_names.proofs.Loops.{Left}
 use Rattle.og_cload.proofs.interface.has_fields.Given as goal
 
 abbrev pub invariant-loop-field : goal.invariant-loop-field

@@ -2,7 +2,7 @@ use Rattle.std.specs.List.{list_all}
 use Rattle.og_cload.specs.Names.{names_in}
 use Rattle.og_csubset.specs.Kinds.{is_in}
 use Rattle.og_csubset.specs.Interface.{incoming_from, signal_function}
-use Rattle.og_cload.proofs.Loops.{Left}
+use Rattle.og_names.proofs.Loops.{Left}
 use Rattle.og_cload.proofs.interface.has_signals.Given as goal
 
 abbrev pub invariant-loop-signal : goal.invariant-loop-signal

@@ -1,5 +1,5 @@
 use Rattle.og_csubset.specs.Kinds.{member_in}
-use Rattle.og_cload.proofs.Loops.{Left}
+use Rattle.og_names.proofs.Loops.{Left}
 use Rattle.og_cload.proofs.Places.{member_from}
 use Rattle.og_cload.proofs.kinds.member_in.Given as goal
 

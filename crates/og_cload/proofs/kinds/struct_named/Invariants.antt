@@ -1,7 +1,7 @@
 use Rattle.std.specs.List.{find}
 use Rattle.std.specs.Str.{bytes_eq}
 use Rattle.og_csubset.specs.declared.CStruct.{CStruct}
-use Rattle.og_cload.proofs.Loops.{Left}
+use Rattle.og_names.proofs.Loops.{Left}
 use Rattle.og_cload.proofs.kinds.struct_named.Given as goal
 
 abbrev pub invariant-loop-one : goal.invariant-loop-one

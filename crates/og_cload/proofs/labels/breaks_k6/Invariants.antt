@@ -1,6 +1,6 @@
 use Rattle.std.specs.List.{list_all}
 use Rattle.og_csubset.specs.Loading.{has_labels}
-use Rattle.og_cload.proofs.Loops.{Left}
+use Rattle.og_names.proofs.Loops.{Left}
 use Rattle.og_cload.proofs.labels.breaks_k6.Given as goal
 
 abbrev pub invariant-loop-function : goal.invariant-loop-function

@@ -1,7 +1,7 @@
 use Rattle.std.specs.List.{list_all}
 use Rattle.og_cload.specs.Names.{names_in}
 use Rattle.og_csubset.specs.Loading.{calls_known}
-use Rattle.og_cload.proofs.Loops.{Left}
+use Rattle.og_names.proofs.Loops.{Left}
 use Rattle.og_cload.proofs.labels.calls_known.Given as goal
 
 abbrev pub invariant-loop-statement : goal.invariant-loop-statement

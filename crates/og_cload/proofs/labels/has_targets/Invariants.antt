@@ -2,7 +2,7 @@ use Rattle.std.specs.List.{list_all}
 use Rattle.og_cload.specs.Names.{names_in}
 use Rattle.og_csubset.specs.Kinds.{is_in}
 use Rattle.og_csubset.specs.Loading.{targets_of}
-use Rattle.og_cload.proofs.Loops.{Left}
+use Rattle.og_names.proofs.Loops.{Left}
 use Rattle.og_cload.proofs.labels.has_targets.Given as goal
 
 abbrev pub invariant-loop-statement : goal.invariant-loop-statement

@@ -1,7 +1,7 @@
 use Rattle.std.proofs.Common.{◌++◌}
 use Rattle.og_cload.specs.Names.{names_in}
 use Rattle.og_csubset.specs.Loading.{labels_of}
-use Rattle.og_cload.proofs.Loops.{Left}
+use Rattle.og_names.proofs.Loops.{Left}
 use Rattle.og_cload.proofs.labels.labels_of.Given as goal
 
 abbrev pub invariant-loop-statement : goal.invariant-loop-statement

@@ -1,6 +1,6 @@
 use Rattle.og_csubset.specs.Loading.{has_twice}
 use Rattle.og_cload.specs.Names.{names_in}
-use Rattle.og_cload.proofs.Loops.{Left}
+use Rattle.og_names.proofs.Loops.{Left}
 use Rattle.og_cload.proofs.names.has_twice.Given as goal
 
 abbrev pub invariant-loop-place : goal.invariant-loop-place

@@ -1,6 +1,6 @@
 use Rattle.og_csubset.specs.Kinds.{is_in}
 use Rattle.og_cload.specs.Names.{names_in}
-use Rattle.og_cload.proofs.Loops.{Left}
+use Rattle.og_names.proofs.Loops.{Left}
 use Rattle.og_cload.proofs.names.is_in.Given as goal
 
 abbrev pub invariant-loop-other : goal.invariant-loop-other

@@ -2,7 +2,7 @@ use Rattle.std.specs.List.{list_all}
 use Rattle.og_csubset.specs.declared.CGlobal.{CGlobal}
 use Rattle.og_csubset.specs.Loading.{is_known}
 use Rattle.og_cload.specs.Names.{names_in}
-use Rattle.og_cload.proofs.Loops.{Left}
+use Rattle.og_names.proofs.Loops.{Left}
 use Rattle.og_cload.proofs.types.globals_known.Given as goal
 
 abbrev pub invariant-loop-global : goal.invariant-loop-global

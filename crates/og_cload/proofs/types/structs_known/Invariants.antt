@@ -1,7 +1,7 @@
 use Rattle.std.proofs.Common.{[]}
 use Rattle.og_csubset.specs.Loading.{structs_known}
 use Rattle.og_cload.specs.Names.{names_in}
-use Rattle.og_cload.proofs.Loops.{Left}
+use Rattle.og_names.proofs.Loops.{Left}
 use Rattle.og_cload.proofs.Known.{known_after}
 use Rattle.og_cload.proofs.types.structs_known.Given as goal
 

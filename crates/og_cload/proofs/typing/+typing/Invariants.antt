@@ -1,6 +1,6 @@
 use Rattle.og_csubset.specs.Loading.{is_number, kind_after}
 use Rattle.og_cload.specs.Held.{kind_of}
-use Rattle.og_cload.proofs.Loops.{Left}
+use Rattle.og_names.proofs.Loops.{Left}
 use Rattle.og_cload.proofs.typing.+typing.Given as goal
 
 abbrev pub invariant-kind_after-loop-step : goal.invariant-kind_after-loop-step

@@ -2,7 +2,7 @@ use Rattle.std.proofs.Common.{◌+◌, ◌*◌, ◌≤◌, map}
 use Rattle.og_csubset.specs.declared.CMember.{CMember}
 use Rattle.og_csubset.specs.Kinds.{width_within, total, times}
 use Rattle.og_cload.specs.Widths.{many, capped}
-use Rattle.og_cload.proofs.Loops.{Left}
+use Rattle.og_names.proofs.Loops.{Left}
 use Rattle.og_cload.proofs.width.+width.Given as goal
 
 abbrev pub invariant-members_width-loop-member : goal.invariant-members_width-loop-member

@@ -2,7 +2,7 @@ use Rattle.std.proofs.Common.{◌+◌, ◌≤◌, map}
 use Rattle.og_csubset.specs.declared.CGlobal.{CGlobal}
 use Rattle.og_csubset.specs.Kinds.{width_of, total}
 use Rattle.og_cload.specs.Widths.{many, capped}
-use Rattle.og_cload.proofs.Loops.{Left}
+use Rattle.og_names.proofs.Loops.{Left}
 use Rattle.og_cload.proofs.width.cells_of_globals.Given as goal
 
 abbrev pub invariant-loop-global : goal.invariant-loop-global

@@ -1,6 +1,6 @@
 use Rattle.std.proofs.Common.{map}
 use Rattle.og_ccells.specs.Trees.{cells_of}
-use Rattle.og_cload.proofs.Loops.{Left}
+use Rattle.og_names.proofs.Loops.{Left}
 use Rattle.og_cstep.specs.Slots.{are_held}
 use Rattle.og_cstep.proofs.ends.are_held.Given as goal
 

@@ -1,7 +1,7 @@
 use Rattle.std.proofs.Common.{map}
 use Rattle.std.specs.List.{list_all}
 use Rattle.og_ccells.specs.Trees.{cells_of}
-use Rattle.og_cload.proofs.Loops.{Left}
+use Rattle.og_names.proofs.Loops.{Left}
 use Rattle.og_cstep.specs.Slots.{rests_in}
 use Rattle.og_cstep.proofs.ends.are_regions_held.Given as goal
 

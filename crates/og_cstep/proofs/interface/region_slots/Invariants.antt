@@ -1,6 +1,6 @@
 use Rattle.std.proofs.Common.{◌++◌, map}
 use Rattle.og_csubset.specs.declared.CGlobal.{CGlobal}
-use Rattle.og_cload.proofs.Loops.{Left}
+use Rattle.og_names.proofs.Loops.{Left}
 use Rattle.og_cstep.specs.Interfaces.{region_slot}
 use Rattle.og_cstep.proofs.interface.region_slots.Given as goal
 

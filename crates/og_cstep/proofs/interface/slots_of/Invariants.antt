@@ -1,7 +1,7 @@
 use Rattle.std.proofs.Common.{◌++◌, map}
 use Rattle.og_csubset.specs.declared.CGlobal.{CGlobal}
 use Rattle.og_cload.specs.Fields.{fields_in}
-use Rattle.og_cload.proofs.Loops.{Left}
+use Rattle.og_names.proofs.Loops.{Left}
 use Rattle.og_cstep.specs.Interfaces.{slots_named}
 use Rattle.og_cstep.proofs.interface.slots_of.Given as goal
 

@@ -3,7 +3,7 @@ use Rattle.std.proofs.lemmas.Int.{to_z-of_z}
 use Rattle.og_ir.specs.Cells.{row}
 use Rattle.og_ccells.specs.declared.cells.Tree.{Tree}
 use Rattle.og_ccells.specs.Trees.{cells_of}
-use Rattle.og_cload.proofs.Loops.{left_stop, left_more}
+use Rattle.og_names.proofs.Loops.{left_stop, left_more}
 use Rattle.og_cstep.specs.Machines.{numbers_of}
 use Rattle.og_cstep.specs.Slots.{at_or_left}
 use Rattle.og_cstep.proofs.Numbered.{in_front, behind}

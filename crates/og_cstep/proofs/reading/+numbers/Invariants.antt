@@ -1,7 +1,7 @@
 use Rattle.std.proofs.Common.{map}
 use Rattle.og_ir.specs.Cells.{row}
 use Rattle.og_ccells.specs.Trees.{cells_of}
-use Rattle.og_cload.proofs.Loops.{Left}
+use Rattle.og_names.proofs.Loops.{Left}
 use Rattle.og_cstep.specs.Machines.{numbers_of}
 use Rattle.og_cstep.specs.Slots.{at_or_left}
 use Rattle.og_cstep.proofs.reading.+numbers.Given as goal

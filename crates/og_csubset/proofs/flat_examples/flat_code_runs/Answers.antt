@@ -1,4 +1,4 @@
-use Rattle.og_csubset.proofs.FlatExampleRuns.{numbers_are_unbounded, numbers_of_64_bits, index_is_outside, divisor_is_zero, copies_items, calls_twice, cut_in_a_call, not_yet_shown, shown_by_the_sixth, table_takes_a_case, table_takes_the_last, counts_and_leaves_its_type, counting_is_fair}
+use Rattle.og_csubset.proofs.FlatExampleRuns.{numbers_are_unbounded, numbers_of_64_bits, index_is_outside, divisor_is_zero, copies_items, calls_twice, cut_in_a_call, not_yet_shown, shown_by_the_sixth, table_takes_a_case, table_takes_the_last, counts_and_leaves_its_type, counting_is_fair, sum_of_forty_nests}
 use Rattle.og_csubset.proofs.flat_examples.flat_code_runs.Goals as goal
 
 pub returns-clause-numbers_are_unbounded : goal.returns-clause-numbers_are_unbounded
@@ -39,3 +39,6 @@ returns-clause-counts_and_leaves_its_type c = counts_and_leaves_its_type
 
 pub returns-clause-counting_is_fair : goal.returns-clause-counting_is_fair
 returns-clause-counting_is_fair c = counting_is_fair
+
+pub returns-clause-sum_of_forty_nests : goal.returns-clause-sum_of_forty_nests
+returns-clause-sum_of_forty_nests c = sum_of_forty_nests

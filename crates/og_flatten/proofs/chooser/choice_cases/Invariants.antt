@@ -1,6 +1,6 @@
 use Rattle.std.proofs.Common.{◌++◌}
 use Rattle.og_flatten.specs.FlatCode.{choice_cases}
-use Rattle.og_flatten.proofs.Loops.{Left}
+use Rattle.og_names.proofs.Loops.{Left}
 use Rattle.og_flatten.proofs.chooser.choice_cases.Given as goal
 
 abbrev pub invariant-loop-number : goal.invariant-loop-number

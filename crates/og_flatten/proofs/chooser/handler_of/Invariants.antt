@@ -1,5 +1,5 @@
 use Rattle.og_flatten.specs.FlatCode.{handler_in}
-use Rattle.og_flatten.proofs.Loops.{Left}
+use Rattle.og_names.proofs.Loops.{Left}
 use Rattle.og_flatten.proofs.chooser.handler_of.Given as goal
 
 abbrev pub invariant-loop-handler : goal.invariant-loop-handler

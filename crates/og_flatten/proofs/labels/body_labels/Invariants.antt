@@ -1,5 +1,5 @@
 use Rattle.og_flatten.specs.FlatCode.{states_of, with_states, body_labels}
-use Rattle.og_flatten.proofs.Loops.{Left}
+use Rattle.og_names.proofs.Loops.{Left}
 use Rattle.og_flatten.proofs.labels.body_labels.Given as goal
 
 abbrev pub invariant-loop-state : goal.invariant-loop-state

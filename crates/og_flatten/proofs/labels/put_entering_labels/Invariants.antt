@@ -1,6 +1,6 @@
 use Rattle.std.proofs.Common.{◌++◌}
 use Rattle.og_flatten.specs.FlatCode.{states_of, entering_labels}
-use Rattle.og_flatten.proofs.Loops.{Left}
+use Rattle.og_names.proofs.Loops.{Left}
 use Rattle.og_flatten.proofs.labels.put_entering_labels.Given as goal
 
 abbrev pub invariant-loop-state : goal.invariant-loop-state

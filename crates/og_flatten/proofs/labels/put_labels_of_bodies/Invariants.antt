@@ -1,6 +1,6 @@
 use Rattle.std.proofs.Common.{◌++◌}
 use Rattle.og_flatten.specs.FlatCode.{labels_of_bodies}
-use Rattle.og_flatten.proofs.Loops.{Left}
+use Rattle.og_names.proofs.Loops.{Left}
 use Rattle.og_flatten.proofs.labels.put_labels_of_bodies.Given as goal
 
 abbrev pub invariant-loop-number : goal.invariant-loop-number

@@ -1,5 +1,5 @@
 use Rattle.og_flatten.specs.FlatCode.{with_handlers}
-use Rattle.og_flatten.proofs.Loops.{Left}
+use Rattle.og_names.proofs.Loops.{Left}
 use Rattle.og_flatten.proofs.labels.set_handler_labels.Given as goal
 
 abbrev pub invariant-loop-handler : goal.invariant-loop-handler

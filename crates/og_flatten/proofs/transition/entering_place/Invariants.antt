@@ -1,6 +1,6 @@
 use Rattle.std.proofs.Common.{◌+◌}
 use Rattle.og_flatten.specs.FlatCode.{length_of_bodies}
-use Rattle.og_flatten.proofs.Loops.{Left}
+use Rattle.og_names.proofs.Loops.{Left}
 use Rattle.og_flatten.proofs.transition.entering_place.Given as goal
 
 abbrev pub invariant-loop-body : goal.invariant-loop-body

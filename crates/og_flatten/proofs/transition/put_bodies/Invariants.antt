@@ -1,6 +1,6 @@
 use Rattle.std.proofs.Common.{◌++◌}
 use Rattle.og_flatten.specs.FlatCode.{bodies_at}
-use Rattle.og_flatten.proofs.Loops.{Left}
+use Rattle.og_names.proofs.Loops.{Left}
 use Rattle.og_flatten.proofs.transition.put_bodies.Given as goal
 
 abbrev pub invariant-loop-body : goal.invariant-loop-body

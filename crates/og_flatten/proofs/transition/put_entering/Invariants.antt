@@ -1,6 +1,6 @@
 use Rattle.std.proofs.Common.{◌++◌}
 use Rattle.og_flatten.specs.FlatCode.{entering_code}
-use Rattle.og_flatten.proofs.Loops.{Left}
+use Rattle.og_names.proofs.Loops.{Left}
 use Rattle.og_flatten.proofs.transition.put_entering.Given as goal
 
 abbrev pub invariant-loop-number : goal.invariant-loop-number

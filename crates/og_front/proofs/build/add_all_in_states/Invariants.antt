@@ -2,7 +2,7 @@ use Rattle.std.proofs.Common.{map}
 use Rattle.std.specs.List.{flat_map}
 use Rattle.og_front.specs.Names.{state_names}
 use Rattle.og_front.specs.Rules.{key, with_names}
-use Rattle.og_front.proofs.Loops.{Left}
+use Rattle.og_names.proofs.Loops.{Left}
 use Rattle.og_front.proofs.build.add_all_in_states.Given as goal
 
 abbrev pub invariant-loop-state : goal.invariant-loop-state

@@ -2,7 +2,7 @@ use Rattle.std.proofs.Common.{◌++◌, map}
 use Rattle.std.specs.List.{flat_map}
 use Rattle.og_front.specs.declared.syntax.StateText.{StateText}
 use Rattle.og_front.specs.ModelOf.{input_body}
-use Rattle.og_front.proofs.Loops.{Left}
+use Rattle.og_names.proofs.Loops.{Left}
 use Rattle.og_front.proofs.build.add_bodies.Given as goal
 
 abbrev pub invariant-loop-state : goal.invariant-loop-state

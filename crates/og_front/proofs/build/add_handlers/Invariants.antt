@@ -1,5 +1,5 @@
 use Rattle.og_front.specs.Building.{all_given}
-use Rattle.og_front.proofs.Loops.{Left}
+use Rattle.og_names.proofs.Loops.{Left}
 use Rattle.og_front.proofs.build.add_handlers.Given as goal
 
 abbrev pub invariant-loop-text : goal.invariant-loop-text

@@ -1,6 +1,6 @@
 use Rattle.std.proofs.Common.{◌≡◌, ◌+◌}
 use Rattle.og_front.specs.Building.{handlers_from, given}
-use Rattle.og_front.proofs.Loops.{Left}
+use Rattle.og_names.proofs.Loops.{Left}
 use Rattle.og_front.proofs.build.add_handlers_of.Given as goal
 
 abbrev pub invariant-loop-input : goal.invariant-loop-input

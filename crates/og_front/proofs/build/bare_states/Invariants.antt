@@ -2,7 +2,7 @@ use Rattle.std.proofs.Common.{List, [], map, ◌++◌}
 use Rattle.og_front.specs.declared.syntax.StateText.{StateText}
 use Rattle.og_front.specs.Building.{bare_state}
 use Rattle.og_front.specs.ModelOf.{firsts_from}
-use Rattle.og_front.proofs.Loops.{Left}
+use Rattle.og_names.proofs.Loops.{Left}
 use Rattle.og_front.proofs.build.bare_states.Given as goal
 
 abbrev pub invariant-loop-text : goal.invariant-loop-text

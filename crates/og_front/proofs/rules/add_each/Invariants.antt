@@ -1,7 +1,7 @@
 use Rattle.std.proofs.Common.{map}
 use Rattle.og_names.specs.Folding.{folded}
 use Rattle.og_front.specs.Rules.{with_names}
-use Rattle.og_front.proofs.Loops.{Left}
+use Rattle.og_names.proofs.Loops.{Left}
 use Rattle.og_front.proofs.rules.add_each.Given as goal
 
 abbrev pub invariant-loop-name : goal.invariant-loop-name

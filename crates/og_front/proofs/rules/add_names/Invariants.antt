@@ -1,6 +1,6 @@
 use Rattle.std.proofs.Common.{map}
 use Rattle.og_front.specs.Rules.{key, with_names}
-use Rattle.og_front.proofs.Loops.{Left}
+use Rattle.og_names.proofs.Loops.{Left}
 use Rattle.og_front.proofs.rules.add_names.Given as goal
 
 abbrev pub invariant-loop-name : goal.invariant-loop-name

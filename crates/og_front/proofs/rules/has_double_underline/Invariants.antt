@@ -1,5 +1,5 @@
 use Rattle.std.proofs.Common.{false}
-use Rattle.og_front.proofs.Loops.{Left}
+use Rattle.og_names.proofs.Loops.{Left}
 use Rattle.og_front.proofs.Underlines.{after}
 use Rattle.og_front.proofs.rules.has_double_underline.Given as goal
 

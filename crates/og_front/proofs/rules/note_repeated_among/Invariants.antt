@@ -1,7 +1,7 @@
 use Rattle.std.proofs.Common.{map}
 use Rattle.og_base.specs.Order.{first_from}
 use Rattle.og_front.specs.Rules.{key, with_names, repeated_from}
-use Rattle.og_front.proofs.Loops.{Left}
+use Rattle.og_names.proofs.Loops.{Left}
 use Rattle.og_front.proofs.rules.note_repeated_among.Given as goal
 
 abbrev pub invariant-loop-name : goal.invariant-loop-name

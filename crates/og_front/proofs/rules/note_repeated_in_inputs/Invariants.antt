@@ -1,6 +1,6 @@
 use Rattle.og_base.specs.Order.{first_from}
 use Rattle.og_front.specs.Rules.{handlers_in, with_handlers, repeated_handlers_from}
-use Rattle.og_front.proofs.Loops.{Left}
+use Rattle.og_names.proofs.Loops.{Left}
 use Rattle.og_front.proofs.rules.note_repeated_in_inputs.Given as goal
 
 abbrev pub invariant-loop-input : goal.invariant-loop-input

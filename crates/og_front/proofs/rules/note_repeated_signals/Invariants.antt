@@ -3,7 +3,7 @@ use Rattle.std.specs.List.{flat_map}
 use Rattle.og_base.specs.Order.{first_from}
 use Rattle.og_front.specs.Names.{declared_by}
 use Rattle.og_front.specs.Rules.{repeated_from}
-use Rattle.og_front.proofs.Loops.{Left}
+use Rattle.og_names.proofs.Loops.{Left}
 use Rattle.og_front.proofs.rules.note_repeated_signals.Given as goal
 
 abbrev pub invariant-loop-signal : goal.invariant-loop-signal

@@ -2,7 +2,7 @@ use Rattle.std.proofs.Common.{map}
 use Rattle.std.specs.List.{flat_map}
 use Rattle.og_front.specs.Names.{declared_by}
 use Rattle.og_front.specs.Rules.{key, with_names, table_of}
-use Rattle.og_front.proofs.Loops.{Left}
+use Rattle.og_names.proofs.Loops.{Left}
 use Rattle.og_front.proofs.rules.signal_table.Given as goal
 
 abbrev pub invariant-loop-signal : goal.invariant-loop-signal

@@ -1,6 +1,6 @@
 use Rattle.std.proofs.Common.{map}
 use Rattle.og_front.specs.Rules.{key, with_names, table_of}
-use Rattle.og_front.proofs.Loops.{Left}
+use Rattle.og_names.proofs.Loops.{Left}
 use Rattle.og_front.proofs.rules.state_table.Given as goal
 
 abbrev pub invariant-loop-state : goal.invariant-loop-state

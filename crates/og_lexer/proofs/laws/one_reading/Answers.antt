@@ -1,4 +1,5 @@
 use Rattle.og_lexer.proofs.Cutting.{lexes-once, violation-once, lexes-apart}
+use Rattle.og_lexer.proofs.EachText.{text_or_broken}
 use Rattle.og_lexer.proofs.laws.one_reading.Goals as goal
 
 pub returns-clause-tokens : goal.returns-clause-tokens
@@ -9,3 +10,6 @@ returns-clause-violation c = violation-once
 
 pub returns-clause-apart : goal.returns-clause-apart
 returns-clause-apart c = lexes-apart
+
+pub returns-clause-each : goal.returns-clause-each
+returns-clause-each c = text_or_broken

@@ -59,7 +59,7 @@ loop-at-preserved c =
     let same = c.split_at-in-loop-at.ensures.front ∙ ap (take c.in-Ok.front.len) c.split_at.ensures.back in
     subst (λ p. SoFar c.args.file bytes (c.loop-at.at + c.in-Ok.front.len) p c.keep.new.lexed) (sym (c.place_after-place.ensures ∙ ap (place_after c.loop-at.place) same))
     (so_far-more c.args.file bytes c.loop-at.at c.loop-at.place c.loop-at.lexed c.keep.new.lexed c.in-Ok.front c.loop-at.invariant (front_at (goal.at.loop-at-preserved c).In-Ok)
-    (subst (λ text. GainsPiece c.loop-at.lexed c.keep.new.lexed c.in-Ok.front.shape text c.loop-at.place c.loop-at.at) same c.in_ok-keep.ensures.ok))
+    (subst (λ text. GainsPiece c.loop-at.lexed c.keep.new.lexed c.in-Ok.front.shape text c.loop-at.place c.loop-at.at) same c.in_ok-keep.ensures))
 
 pub returns : goal.returns
 returns c =
@@ -67,7 +67,7 @@ returns c =
     let bytes = c.args.bytes.now in
     let tokens = c.put.new.items in
     let comments = c.loop-at.lexed.comments in
-    let read = so_far-done file bytes c.loop-at.at c.loop-at.place c.loop-at.lexed tokens c.loop-at.invariant c.loop-at-test.false c.in_ok-put.ensures.ok in
+    let read = so_far-done file bytes c.loop-at.at c.loop-at.place c.loop-at.lexed tokens c.loop-at.invariant c.loop-at-test.false c.in_ok-put.ensures in
     record {
       found = read;
       only = λ others more lexes. lexes-once file bytes others tokens more comments lexes read;

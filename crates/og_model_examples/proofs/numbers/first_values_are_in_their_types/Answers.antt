@@ -4,4 +4,4 @@ use Rattle.og_model_examples.proofs.numbers.first_values_are_in_their_types.Goal
 
 pub returns : goal.returns
 unfolding trees
-returns c = λ w. false≢true w.resolved.variables
+returns c = λ w. false≢true w.rules.first_values

@@ -1,6 +1,6 @@
 use Rattle.std.proofs.Common.{◌≡◌, ◌++◌, List}
 use Rattle.og_model.specs.declared.Region.{Region}
-use Rattle.og_cload.proofs.Loops.{Left}
+use Rattle.og_names.proofs.Loops.{Left}
 use Rattle.og_cstep.specs.Machines.{run_of}
 use Rattle.og_trace.specs.Leaves.{leaves_from}
 use Rattle.og_trace.proofs.ending.active_leaves.Given as goal

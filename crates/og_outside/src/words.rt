@@ -1,0 +1,19 @@
+//! The words of the command line.
+ghost use Rattle.std.specs.Prelude.{◌≡◌, IfOk, drop};
+ghost use Rattle.std.specs.Vec.Iter.{into_iter_items};
+
+use std::alloc::{AllocError, Global};
+use std::env::Args;
+
+/// The words after the first, which is the name of the program.
+pub fn words_after_name(alloc: Global, args: Args) -> Result<Vec<String>, AllocError>
+    ensures { IfOk result (λ words. words.items ≡ drop 1 (into_iter_items args)) }
+{
+    let mut rest = args;
+    let _name = rest.next();
+    let mut words = Vec::new(alloc);
+    while let Some(word) = rest.next() {
+        words.push(word)?;
+    }
+    Ok(words)
+}
