@@ -1,0 +1,43 @@
+//! What a case tries.
+
+/// What a case tries, over its files. The words behind it say over which.
+#[derive(Clone, Copy, Debug, PartialEq, Eq)]
+pub enum Action {
+    /// `words WORD ..`: the tool is called with these words.
+    Words,
+    /// `tokens FILE`: the tokens of an SDL text.
+    Tokens,
+    /// `text FILE`: whether a text is one of the C subset.
+    Text,
+    /// `tree FILE`: the program that a text of the C subset spells.
+    Tree,
+    /// `names FILE`: a name a line, with its number in a table.
+    Names,
+    /// `stimuli FILE`: the stimuli over a model with a timer.
+    Stimuli,
+    /// `read FILE LIMIT`: a file is read whole.
+    Read,
+    /// `write FILE`: each line of the file is written.
+    Write,
+    /// `steps FILE FUNCTION COUNT`: statements of a function, without the rules that a program is loaded by.
+    Steps,
+    /// `machine FILE COUNT`: statements of the start of a program that is loaded over a model with a timer.
+    Machine,
+}
+
+/// The action of this word.
+pub fn action_of(word: &str) -> Option<Action> {
+    match word {
+        "words" => Some(Action::Words),
+        "tokens" => Some(Action::Tokens),
+        "text" => Some(Action::Text),
+        "tree" => Some(Action::Tree),
+        "names" => Some(Action::Names),
+        "stimuli" => Some(Action::Stimuli),
+        "read" => Some(Action::Read),
+        "write" => Some(Action::Write),
+        "steps" => Some(Action::Steps),
+        "machine" => Some(Action::Machine),
+        _ => None,
+    }
+}

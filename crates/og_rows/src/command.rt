@@ -1,0 +1,113 @@
+//! Calls of the tool over files in memory.
+
+use crate::case::{Case, Shown};
+use crate::escape::{show_line, show_lines};
+use og_base::{MemFile, MemSink, MemStore};
+use og_tool::run_tool;
+use std::alloc::{AllocError, Global};
+
+/// Appends the status of a call with the words of the case, and what was written.
+pub fn show_command(alloc: Global, case: &Case, out: &mut String) -> Result<(), AllocError> {
+    let mut store = MemStore::new(copied(alloc, &case.files)?, case.reads.clone()?);
+    let mut sink = MemSink::new(alloc, case.writes.clone()?);
+    let status = run_tool(alloc, &case.words, &mut store, &mut sink);
+    let code = status.code();
+    write!(out, "{status:?} {code}\n")?;
+    show_output(case, sink.bytes.as_slice(), out)
+}
+
+/// What the tool writes that is called with these words over the files of the case, where no call fails.
+pub fn written_by(alloc: Global, case: &Case, words: &Vec<String>) -> Result<Vec<u8>, AllocError> {
+    let mut store = MemStore::new(copied(alloc, &case.files)?, Vec::new(alloc));
+    let mut sink = MemSink::new(alloc, Vec::new(alloc));
+    run_tool(alloc, words, &mut store, &mut sink);
+    Ok(sink.bytes)
+}
+
+pub fn copied(alloc: Global, files: &[MemFile]) -> Result<Vec<MemFile>, AllocError> {
+    let mut copies = Vec::new(alloc);
+    for file in files {
+        copies.push(MemFile {
+            name: file.name.clone()?,
+            bytes: file.bytes.clone()?,
+        })?;
+    }
+    Ok(copies)
+}
+
+/// Appends an output as the case wants it shown.
+fn show_output(case: &Case, bytes: &[u8], out: &mut String) -> Result<(), AllocError> {
+    match &case.shown {
+        Shown::Whole => show_lines(bytes, out),
+        Shown::Lines(numbers) => show_numbered(bytes, numbers, out),
+        Shown::Ends(count) => show_ends(bytes, *count, out),
+        Shown::As(name) => show_same(bytes, case.file(name.as_str()), name.as_str(), out),
+    }
+}
+
+fn show_numbered(bytes: &[u8], numbers: &[u64], out: &mut String) -> Result<(), AllocError> {
+    for number in numbers {
+        let number = *number;
+        match line_of(bytes, number) {
+            None => write!(out, "{number} is not there\n")?,
+            Some(line) => {
+                write!(out, "{number} ")?;
+                show_line("", line, out)?;
+            }
+        }
+    }
+    Ok(())
+}
+
+/// The line of this number, counted from 1, without its end.
+fn line_of(bytes: &[u8], number: u64) -> Option<&[u8]> {
+    let mut left = number;
+    for line in bytes.split(|byte| *byte == b'\n') {
+        left = left.saturating_sub(1);
+        if left == 0 {
+            return Some(line);
+        }
+    }
+    None
+}
+
+fn show_ends(bytes: &[u8], count: u64, out: &mut String) -> Result<(), AllocError> {
+    let size = bytes.len();
+    let lines = bytes.split_inclusive(|byte| *byte == b'\n').count() as u64;
+    write!(out, "{size} bytes\n")?;
+    let last = lines.saturating_sub(count);
+    let mut number = 0u64;
+    for line in bytes.split_inclusive(|byte| *byte == b'\n') {
+        if number == count && number < last {
+            out.push_str("..\n")?;
+        }
+        if number < count || number >= last {
+            show_lines(line, out)?;
+        }
+        number = number.saturating_add(1);
+    }
+    Ok(())
+}
+
+/// Whether the output is the file, or where the two part.
+fn show_same(
+    bytes: &[u8],
+    file: Option<&[u8]>,
+    name: &str,
+    out: &mut String,
+) -> Result<(), AllocError> {
+    let Some(wanted) = file else {
+        return write!(out, "{name} is not there\n");
+    };
+    if bytes == wanted {
+        return write!(out, "as {name}\n");
+    }
+    let mut equal = 0u64;
+    for (one, other) in bytes.iter().zip(wanted) {
+        if one != other {
+            break;
+        }
+        equal = equal.saturating_add(1);
+    }
+    write!(out, "other than {name} behind {equal} bytes\n")
+}
