@@ -15,4 +15,3 @@ pub use linking::{Linked, link};
 pub use memory::Halt;
 pub use position::{Call, Position};
 pub use stepping::step;
-

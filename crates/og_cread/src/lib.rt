@@ -42,4 +42,3 @@ pub fn read_c(alloc: Global, bytes: &[u8]) -> Result<CProgram, CReadError>
 
 /// Lines and columns of shorter texts are below 2^32.
 const LONGEST: usize = (1 << 32) - 1;
-

@@ -163,4 +163,3 @@ fn put(out: &mut Vec<u8>, bytes: &[u8]) -> Result<(), NoMemory>
     out.extend_from_slice(bytes)?;
     Ok(())
 }
-
