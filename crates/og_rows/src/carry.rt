@@ -43,12 +43,14 @@ fn show_lines_of(
     one: &Section<'_>,
     out: &mut String,
 ) -> Result<(), AllocError> {
-    for section in [head, one] {
-        if let Some((number, wrong)) = take_lines(alloc, &mut case, &section.lines) {
-            return write!(out, "error in line {number}: {wrong}\n");
-        }
+    let mut found = take_lines(alloc, &mut case, &head.lines);
+    if found.is_none() {
+        found = take_lines(alloc, &mut case, &one.lines);
     }
-    match show_action(alloc, &case, out) {
+    if let Some((number, wrong)) = found {
+        return write!(out, "error in line {number}: {wrong}\n");
+    }
+    match show_action(alloc, &mut case, out) {
         Ok(()) => Ok(()),
         Err(wrong) => write!(out, "error: {wrong}\n"),
     }
@@ -64,7 +66,7 @@ fn take_lines(alloc: Global, case: &mut Case, lines: &[Line<'_>]) -> Option<(usi
     None
 }
 
-fn show_action(alloc: Global, case: &Case, out: &mut String) -> Result<(), Wrong> {
+fn show_action(alloc: Global, case: &mut Case, out: &mut String) -> Result<(), Wrong> {
     match case.action {
         Action::Words => show_command(alloc, case, out)?,
         Action::Tokens => show_tokens(alloc, one_file(case)?, out)?,

@@ -177,7 +177,7 @@ impl Case {
     /// `by WORD ..`: adds what the tool writes that is called with these words.
     fn add_output(&mut self, alloc: Global, rest: &str) -> Result<(), Wrong> {
         let words = words_of(alloc, rest, &self.with)?;
-        let text = written_by(alloc, self, &words)?;
+        let text = written_by(alloc, &mut self.files, &words);
         let Some(file) = self.files.last_mut() else {
             return Err(Wrong::Outside);
         };

@@ -3,36 +3,40 @@
 use crate::case::{Case, Shown};
 use crate::escape::{show_line, show_lines};
 use og_base::{MemFile, MemSink, MemStore};
-use og_tool::run_tool;
+use og_tool::{Status, run_tool};
 use std::alloc::{AllocError, Global};
+use std::mem;
 
 /// Appends the status of a call with the words of the case, and what was written.
-pub fn show_command(alloc: Global, case: &Case, out: &mut String) -> Result<(), AllocError> {
-    let mut store = MemStore::new(copied(alloc, &case.files)?, case.reads.clone()?);
+pub fn show_command(alloc: Global, case: &mut Case, out: &mut String) -> Result<(), AllocError> {
+    let reads = case.reads.clone()?;
     let mut sink = MemSink::new(alloc, case.writes.clone()?);
-    let status = run_tool(alloc, &case.words, &mut store, &mut sink);
+    let status = called(alloc, &mut case.files, &case.words, reads, &mut sink);
     let code = status.code();
     write!(out, "{status:?} {code}\n")?;
     show_output(case, sink.bytes.as_slice(), out)
 }
 
-/// What the tool writes that is called with these words over the files of the case, where no call fails.
-pub fn written_by(alloc: Global, case: &Case, words: &Vec<String>) -> Result<Vec<u8>, AllocError> {
-    let mut store = MemStore::new(copied(alloc, &case.files)?, Vec::new(alloc));
+/// What the tool writes that is called with these words over these files, where no call fails.
+pub fn written_by(alloc: Global, files: &mut Vec<MemFile>, words: &Vec<String>) -> Vec<u8> {
     let mut sink = MemSink::new(alloc, Vec::new(alloc));
-    run_tool(alloc, words, &mut store, &mut sink);
-    Ok(sink.bytes)
+    called(alloc, files, words, Vec::new(alloc), &mut sink);
+    sink.bytes
 }
 
-pub fn copied(alloc: Global, files: &[MemFile]) -> Result<Vec<MemFile>, AllocError> {
-    let mut copies = Vec::new(alloc);
-    for file in files {
-        copies.push(MemFile {
-            name: file.name.clone()?,
-            bytes: file.bytes.clone()?,
-        })?;
-    }
-    Ok(copies)
+/// Calls the tool over files that stay as they are.
+fn called(
+    alloc: Global,
+    files: &mut Vec<MemFile>,
+    words: &Vec<String>,
+    reads: Vec<u64>,
+    sink: &mut MemSink,
+) -> Status {
+    let mut store = MemStore::new(Vec::new(alloc), reads);
+    mem::swap(files, &mut store.files);
+    let status = run_tool(alloc, words, &mut store, sink);
+    mem::swap(files, &mut store.files);
+    status
 }
 
 /// Appends an output as the case wants it shown.

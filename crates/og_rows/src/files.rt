@@ -1,24 +1,25 @@
 //! Files that are read whole, and bytes that are written whole, over the stores and sinks in memory.
 
 use crate::case::{Case, Wrong, number_of};
-use crate::command::copied;
 use crate::escape::show_lines;
 use og_base::{
     MemSink, MemStore, NeverFailSink, NeverFailStore, ReadError, Store, read_all, write_all,
 };
 use std::alloc::{AllocError, Global};
+use std::mem;
 
 /// Appends what the reading of a file answers, over a store that fails at the calls of the case, and over one that never fails.
-pub fn show_read(alloc: Global, case: &Case, out: &mut String) -> Result<(), Wrong> {
+pub fn show_read(alloc: Global, case: &mut Case, out: &mut String) -> Result<(), Wrong> {
     let [name, limit] = case.words.as_slice() else {
         return Err(Wrong::Words);
     };
     let limit = number_of(limit.as_str())?;
-    let mut store = MemStore::new(copied(alloc, &case.files)?, case.reads.clone()?);
+    let mut store = MemStore::new(Vec::new(alloc), case.reads.clone()?);
+    mem::swap(&mut case.files, &mut store.files);
     show_read_of(alloc, &mut store, name.as_str(), limit, out)?;
     let failures = store.failures;
     write!(out, ", {failures} failures\nnever failing: ")?;
-    let mut store = NeverFailStore::new(copied(alloc, &case.files)?);
+    let mut store = NeverFailStore::new(store.files);
     show_read_of(alloc, &mut store, name.as_str(), limit, out)?;
     out.push_str("\n")?;
     Ok(())
