@@ -5,4 +5,3 @@ use Rattle.std.proofs.lemmas.Bool.{false≢true}
 pub false_by : (b : Bool) → (b ≡ true → ⊥) → b ≡ false
 false_by true h = absurd (h refl)
 false_by false h = refl
-

@@ -6,4 +6,3 @@ mod expression;
 mod program;
 
 pub use program::print_c;
-

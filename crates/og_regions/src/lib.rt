@@ -36,4 +36,3 @@ pub fn number(alloc: Global, model: &Model) -> Result<Regions, NoMemory>
     all.append(list)?;
     Ok(Regions { list: all })
 }
-
