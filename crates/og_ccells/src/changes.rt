@@ -1,5 +1,6 @@
 //! Copies of trees, and trees with a part replaced. `Items` lends no item for a change, so a tree whose part is replaced is a
-//! new one: this takes time and memory by the size of the global that holds the part. A whole global is replaced as it is.
+//! new one, made of copies of all its other parts: this takes time and memory by the size of the global less that part. The
+//! part that is replaced is not copied, nor is a global that is replaced whole.
 #![tactic(auto, using(og_names::proofs::Loops::loops, crate::proofs::Celled::celled, crate::proofs::Replaced::replaced))]
 
 ghost use Rattle.std.specs.Prelude.{◌≡◌, ◌<◌, IfOk, OnOk, OnErr, length, map, slice_set};

@@ -1,5 +1,6 @@
--- What is seen of a machine that begins each of some stimuli and then advances until an answer says that the run has ended, at most so many
--- times for each: the events that its answers tell, with their values, and the end. Where no answer has said so, it is Past.
+-- What is seen of a machine that begins each of some stimuli and then advances until an answer says that the run has ended,
+-- at most so many times for each: the events that its answers tell, with their values, and the end. Where no answer has said
+-- so, it is Past; so with no statement at all each stimulus is Past, and the law whole_runs asks for one or more.
 use Rattle.std.specs.Prelude.{ℕ, zero, suc, List, [], ◌∷◌, ◌++◌}
 use Rattle.og_model.specs.declared.StimId.{StimId}
 use Rattle.og_model.specs.Shown as shown
