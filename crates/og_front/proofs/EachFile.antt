@@ -44,15 +44,17 @@ unspelt : (tokens : List Spanned) (system : SystemText) → sentence tokens ≡ 
 unspelt tokens system none spells = let e : None ≡ Some system = sym none ∙ spelt_is_sentence tokens system spells in cc
 
 no_sentence : (bytes : List ℕ) (tokens : List Spanned) (comments : List Comment) → Lexes 0 bytes tokens comments → sentence tokens ≡ None → HasFirst tokens → IsRefused bytes
-no_sentence bytes tokens comments lexes none head =
-    (record { rule = F1; place = head.first.place }, inr (inl (record {
-      first = head.first;
-      more = head.more;
-      comments = comments;
-      lexes = subst (λ (ts : List Spanned). Lexes 0 bytes ts comments) head.is lexes;
-      unspelt = λ system spells. unspelt (head.first ∷ head.more) system (ap sentence (sym head.is) ∙ none) spells;
-      is = refl;
-    })))
+no_sentence bytes tokens comments lexes none head = (
+  record { rule = F1; place = head.first.place },
+  inr (inl (record {
+    first = head.first;
+    more = head.more;
+    comments = comments;
+    lexes = subst (λ (ts : List Spanned). Lexes 0 bytes ts comments) head.is lexes;
+    unspelt = λ system spells. unspelt (head.first ∷ head.more) system (ap sentence (sym head.is) ∙ none) spells;
+    is = refl;
+  })),
+)
 
 by_tree : (bytes : List ℕ) (tokens : List Spanned) (comments : List Comment) → Lexes 0 bytes tokens comments → (found : Option SystemText) → sentence tokens ≡ found → IsAccepted bytes ⊎ IsRefused bytes
 by_tree bytes tokens comments lexes None is =
