@@ -57,4 +57,3 @@ pub struct Machine {
     ghost linked_is: { linked ≡ linked_of program model },
     ghost interface_is: { interface ≡ interface_of program model },
 }
-
