@@ -38,7 +38,8 @@ pub fn run_tool<S: Store, K: Sink>(
     // The C of a model is never stuck: only the words of `run` can give this status.
     ensures never_stuck { result ≡ Status.Stuck → AskForRun (map string_bytes words.now.items) }
 
-    // Reading a file of the words failed, or one has too many bytes, where nothing before it is wrong, and nothing is written.
+    // Reading a file of the words failed, or one has too many bytes, and nothing is written. Of the files before it, as far
+    // as the store tells what they hold, the model is accepted and the program can be run.
     ensures read_fault { result ≡ Status.ReadFault → FailedToRead (map string_bytes words.now.items) (S.holds store.old) (S.faults store.old) (S.faults store.new) }
     ensures read_fault_writes_nothing { result ≡ Status.ReadFault → K.written out.new ≡ K.written out.old }
     ensures too_large { result ≡ Status.TooLarge → IsTooLarge (map string_bytes words.now.items) (S.holds store.old) }
@@ -75,13 +76,24 @@ fn carry_out<S: Store, K: Sink>(
     ensures sink_counts { K.faults out.old ≤ K.faults out.new }
 {
     match output_of(alloc, command, store) {
-        Err(ReadError::Fault) => Status::ReadFault,
-        Err(ReadError::TooLarge) => Status::TooLarge,
-        Err(ReadError::NoMemory) => Status::NoMemory,
+        Err(error) => unread(error),
         Ok(output) => match write_all(out, &output.text) {
             Ok(()) => output.status,
             Err(_) => Status::WriteFault,
         },
+    }
+}
+
+/// The status where no output was made.
+fn unread(error: ReadError) -> Status
+    ensures fault { error ≡ ReadError.Fault → result ≡ Status.ReadFault }
+    ensures too_large { error ≡ ReadError.TooLarge → result ≡ Status.TooLarge }
+    ensures no_memory { error ≡ ReadError.NoMemory → result ≡ Status.NoMemory }
+{
+    match error {
+        ReadError::Fault => Status::ReadFault,
+        ReadError::TooLarge => Status::TooLarge,
+        ReadError::NoMemory => Status::NoMemory,
     }
 }
 
