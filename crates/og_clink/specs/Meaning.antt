@@ -8,7 +8,7 @@ use Rattle.og_ir.specs.Cells.{Cells, Cell, number_in}
 use Rattle.og_ir.specs.Reading.{below}
 use Rattle.og_ir.specs.Arithmetic.{Trouble, Index, Value, ◌>>=◌, or_else, in_64_bits, negative_of, is_same}
 use Rattle.og_ir.specs.FlatSteps.{Spot, cells_at, put}
-use Rattle.og_ir.specs.Steps.{Frame, Config, Running, Over, Broken, Ran, quiet, with_value, onward, jumped, returned, called, showing}
+use Rattle.og_ir.specs.Steps.{Frame, Running, Ran, quiet, onward, jumped, returned, called, showing}
 use Rattle.og_clink.specs.declared.code.Expression.{Expression, Expression-F, fold-Expression}
 use Rattle.og_clink.specs.declared.code.Expression.TheOpen.{Literal, Read, Minus, Op, Choice, Member, Element}
 use Rattle.og_clink.specs.declared.code.Selector.{Selector, Selector-F, fold-Selector}
@@ -163,9 +163,3 @@ carried shows globals frame callers (Put spot cells) = quiet (Running (put globa
 carried shows globals frame callers (Enter function) = called globals frame callers function
 carried shows globals frame callers (Show event) = showing (shows event globals) globals frame callers
 carried shows globals frame callers Back = returned globals callers
-
--- one step; a run that is over or broken stays
-abbrev pub linked_step : {E : Type 0} → (EventId → List Cells → Option E) → Linked → Config → Ran E
-linked_step shows linked (Running globals frame callers) = with_value (effect_at linked globals frame) (carried shows globals frame callers)
-linked_step shows linked (Over globals) = quiet (Over globals)
-linked_step shows linked (Broken trouble) = quiet (Broken trouble)

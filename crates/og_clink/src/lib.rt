@@ -12,6 +12,5 @@ mod stepping;
 mod value;
 
 pub use linking::{Linked, link};
-pub use memory::Halt;
 pub use position::{Call, Position};
 pub use stepping::step;

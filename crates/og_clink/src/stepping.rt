@@ -1,7 +1,7 @@
 //! One statement of a run.
 #![tactic(auto, using(crate::proofs::Moving::moving))]
 
-ghost use Rattle.std.specs.Prelude.{◌≡◌, IfOk, OnOk, List, map, Ok, Err};
+ghost use Rattle.std.specs.Prelude.{◌≡◌, IfOk, IfErr, OnOk, List, map, Ok, Err};
 ghost use Rattle.og_ir.specs.Cells.{Cells};
 ghost use Rattle.og_ccells.specs.Trees.{cells_of};
 ghost use Rattle.og_clink.specs.Effects.{effect_view, moved as moved_by, event_shown, shifted, entered, left, IsNext, KeptIfStuck, call_of, after, event_after, next_config, next_event, Leaves};
@@ -94,11 +94,22 @@ fn carry(
             let event = take_effect(alloc, effect, next, globals, position)?;
             Ok(event)
         }
-        Err(Halt::Stuck(rule)) => {
+        Err(halt) => {
+            let rule = rule_of(halt)?;
             *position = Position::Stuck(rule);
             Ok(None)
         }
-        Err(Halt::NoMemory(met)) => Err(met),
+    }
+}
+
+/// Why the run is stuck, or that memory could not be had.
+fn rule_of(halt: Halt) -> Result<StuckRule, NoMemory>
+    ensures stuck { IfOk result (λ rule. halt ≡ Halt.Stuck rule) }
+    ensures no_memory { IfErr result (λ met. halt ≡ Halt.NoMemory met) }
+{
+    match halt {
+        Halt::Stuck(rule) => Ok(rule),
+        Halt::NoMemory(met) => Err(met),
     }
 }
 

@@ -6,3 +6,4 @@ pub mod GivenStimuli
 pub mod ProgramParts
 pub mod RunningParts
 pub mod OneOutput
+pub mod OneSimulation

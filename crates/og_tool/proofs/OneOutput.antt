@@ -37,7 +37,7 @@ pub record Laws : Type 0 where
 
 -- ---- what was read
 
-same_bytes : (files : Files) (name a b : List ℕ) → HasRead (Some files) name a → HasRead (Some files) name b → a ≡ b
+pub same_bytes : (files : Files) (name a b : List ℕ) → HasRead (Some files) name a → HasRead (Some files) name b → a ≡ b
 same_bytes files name a b x y = same_some a b (sym x.holds ∙ y.holds)
 
 never_large : (files : Files) (name a : List ℕ) → HasRead (Some files) name a → HoldsMore (Some files) name limit → ⊥
@@ -45,20 +45,20 @@ never_large files name a x more =
     let long : length a ≡ length more.0 = ap length (same_some a more.0 (sym x.holds ∙ more.1)) in
     omega (arith, x.small, more.2, long)
 
-same_model : Laws → (files : Files) (file : List ℕ) (M N : Model) → HasModel (Some files) file M → HasModel (Some files) file N → M ≡ N
+pub same_model : Laws → (files : Files) (file : List ℕ) (M N : Model) → HasModel (Some files) file M → HasModel (Some files) file N → M ≡ N
 same_model laws files file M N x y =
     let P : List ℕ → Type 0 = λ bytes. IsTextOf y.system bytes in
     let text : IsTextOf y.system x.bytes = subst P (same_bytes files file y.bytes x.bytes y.read x.read) y.accepts.text in
     let same : x.system ≡ y.system = same_system laws.texts x.bytes x.system y.system x.accepts.text text in
     x.is ∙ ap model_of_tree same ∙ sym y.is
 
-never_reported : Laws → (files : Files) (file line : List ℕ) (M : Model) (status : Status) → HasModel (Some files) file M → IsReport (Some files) file status line → ⊥
+pub never_reported : Laws → (files : Files) (file line : List ℕ) (M : Model) (status : Status) → HasModel (Some files) file M → IsReport (Some files) file status line → ⊥
 never_reported laws files file line M status x report =
     let P : List ℕ → Type 0 = λ bytes. FirstViolation bytes report.violation in
     never_both laws.texts laws.apart x.bytes report.violation (record { system = x.system; accepts = x.accepts })
     (subst P (same_bytes files file report.bytes x.bytes report.read x.read) report.first)
 
-same_report : Laws → (files : Files) (file line more : List ℕ) (status other : Status) → IsReport (Some files) file status line → IsReport (Some files) file other more → (status ≡ other) × (line ≡ more)
+pub same_report : Laws → (files : Files) (file line more : List ℕ) (status other : Status) → IsReport (Some files) file status line → IsReport (Some files) file other more → (status ≡ other) × (line ≡ more)
 same_report laws files file line more status other x y =
     let P : List ℕ → Type 0 = λ bytes. FirstViolation bytes y.violation in
     let same : x.violation ≡ y.violation = one_first laws.texts laws.lexicals laws.apart x.bytes x.violation y.violation x.first (subst P (same_bytes files file y.bytes x.bytes y.read x.read) y.first) in

@@ -1,6 +1,8 @@
 -- What the parts of the top call answer.
 use Rattle.std.specs.Prelude.{◌≡◌, ℕ, List, Option, Some, None}
 use Rattle.og_base.specs.declared.ModelError.{ModelError}
+use Rattle.og_base.specs.declared.read.ReadError.{ReadError}
+use Rattle.og_base.specs.declared.read.ReadError.TheVariants as unread
 use Rattle.og_base.specs.declared.ModelError.TheVariants as error
 use Rattle.og_base.specs.Store.{Files, Rose}
 use Rattle.og_base.specs.Sink.{grown, WroteFront}
@@ -56,6 +58,12 @@ IsRefusal line (file.Accepted model) = ⊥
 IsRefusal line (file.Refused text) = text.items ≡ line
 
 -- ---- carrying out a command
+
+-- the status where no output was made
+abbrev pub unread_status : ReadError → Status
+unread_status unread.Fault = ReadFault
+unread_status unread.TooLarge = TooLarge
+unread_status (unread.NoMemory met) = NoMemory
 
 -- what the command calls for with this status was written whole
 abbrev pub WroteAll : Option Files → Command → Status → Option (List ℕ) → Option (List ℕ) → Type 0

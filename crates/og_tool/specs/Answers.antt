@@ -148,7 +148,8 @@ abbrev pub FailedAtStimuli : Option Files → (file code stimuli : List ℕ) →
 FailedAtStimuli told file code stimuli old new =
     (model : Model) × HasModel told file model × ((program : CProgram) × HasProgram told code model program) × RoseAt stimuli old new
 
--- reading a file of the command failed in this call, and nothing before it is wrong
+-- reading a file of the command failed in this call; the files before it were read whole, and they hold an accepted model and
+-- a program that can be run
 abbrev pub FailedFor : Option Files → Command → (old new : List ℕ → ℕ) → Type 0
 FailedFor told (Compile file) old new = RoseAt file old new
 FailedFor told (Run file code stimuli steps) old new =
@@ -170,7 +171,8 @@ abbrev pub AreManyStimuli : Option Files → (file code stimuli : List ℕ) → 
 AreManyStimuli told file code stimuli =
     (model : Model) × HasModel told file model × ((program : CProgram) × HasProgram told code model program) × HoldsMore told stimuli limit
 
--- a file of the command has too many bytes, and nothing before it is wrong
+-- a file of the command has too many bytes; the files before it do not, and they hold an accepted model and a program that
+-- can be run
 abbrev pub IsTooLargeFor : Option Files → Command → Type 0
 IsTooLargeFor told (Compile file) = HoldsMore told file limit
 IsTooLargeFor told (Run file code stimuli steps) =

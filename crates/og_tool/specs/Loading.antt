@@ -5,6 +5,10 @@ use Rattle.og_model.specs.Regions.{regions}
 use Rattle.og_csubset.specs.declared.CProgram.{CProgram}
 use Rattle.og_csubset.specs.Agreement.{SameBehaviour}
 use Rattle.og_csubset.specs.Loading.{first_load_rule}
+use Rattle.og_cread.specs.declared.CReadError.{CReadError}
+use Rattle.og_cread.specs.declared.CReadError.TheVariants as read
+use Rattle.og_cstep.specs.declared.LoadError.{LoadError}
+use Rattle.og_cstep.specs.declared.LoadError.TheVariants as load
 use Rattle.og_cstep.specs.Machines.{run_of, loaded}
 use Rattle.og_tool.specs.declared.program.Loaded.{Loaded}
 use Rattle.og_tool.specs.declared.program.BadProgram.TheVariants.{NoForm, TooDeep, Breaks}
@@ -33,6 +37,19 @@ pub record Agrees (model : Model) (machine : Loaded) : Type 0 where
   pub program : CProgram
   pub agrees : SameBehaviour model program
   pub runs : Runs program model machine
+
+-- ---- one error for another
+
+abbrev pub unread_as : CReadError → ProgramError
+unread_as (read.Bad place) = Bad (NoForm place)
+unread_as (read.TooDeep place) = Bad (TooDeep place)
+unread_as (read.NoMemory met) = NoMemory met
+
+abbrev pub unloaded_as : LoadError → ProgramError
+unloaded_as (load.BadProgram rule) = Bad (Breaks rule)
+unloaded_as (load.NoMemory met) = NoMemory met
+
+-- ---- what an error tells
 
 abbrev pub TellsProgram : Model → List ℕ → ProgramError → Type 0
 TellsProgram model bytes (Bad bad) = IsBadFor model bytes bad

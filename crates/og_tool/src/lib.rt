@@ -15,6 +15,8 @@ pub use og_front::{
     first_is_least, models_are_well_formed, models_of_trees, names_are_short, one_answer,
     trees_are_written,
 };
-pub use output_laws::{agreeing_is_never_stuck, one_command, one_output};
+pub use output_laws::{
+    agreeing_is_never_stuck, enough_is_enough, one_command, one_output, one_simulation,
+};
 pub use run::run_tool;
 pub use status::Status;

@@ -1,17 +1,24 @@
 //! Laws of what a command calls for, each as the contract of a function that does nothing.
-ghost use Rattle.std.specs.Prelude.{◌≡◌, ℕ, List, Some};
+ghost use Rattle.std.specs.Prelude.{◌≡◌, ◌≢◌, ◌≤◌, ℕ, List, Some, false};
 ghost use Rattle.og_base.specs.Store.{Files};
-ghost use Rattle.og_csubset.specs.Agreement.{SameBehaviour};
+ghost use Rattle.og_csubset.specs.Agreement.{SameBehaviour, enough};
 ghost use Rattle.og_csubset.specs.declared.CProgram.{CProgram};
 ghost use Rattle.og_model.specs.Forms.{UsesBasicStatesOnly};
 ghost use Rattle.og_model.specs.declared.Model.{Model};
+ghost use Rattle.og_model.specs.Run.{sdl};
+ghost use Rattle.og_model.specs.Shown.{has_past};
 ghost use Rattle.og_tool.specs.declared.status.Status.{Status};
 ghost use Rattle.og_tool.specs.Answers.{IsOutputFor, IsReport, IsTooLargeFor};
+ghost use Rattle.og_trace.specs.Stims.{stims_of, given};
 ghost use Rattle.og_trace.specs.Traces.{run_outcome};
 ghost use Rattle.og_trace.specs.declared.Outcome.TheVariants as outcome;
 ghost use Rattle.og_tool.specs.Words.{Command, Compile, Run, Simulate, AsksFor};
 
-use og_csubset::{one_answer, one_deep_place, one_program, one_wrong_place};
+use og_csubset::{
+    agreeing_programs_show_the_same, more_statements_go_on, one_answer, one_deep_place, one_program,
+    one_wrong_place,
+};
+use og_front::models_are_well_formed;
 use og_lexer::one_reading;
 
 /// Over a store that tells its files, a run calls for one text with one status, and the C of a model for one status; a simulation
@@ -40,6 +47,33 @@ pub fn agreeing_is_never_stuck()
     ensures { (model : Model) (program : CProgram) → SameBehaviour model program → UsesBasicStatesOnly model → (text : List ℕ) (steps : ℕ) →
         run_outcome model program text steps ≡ outcome.Stuck → ⊥ }
 {}
+
+/// Over a store that tells its files, two outputs of one simulation of which neither is cut short are one text with one
+/// status, whatever programs that agree with the model they come from.
+pub fn one_simulation()
+    ensures { (files : Files) (file stimuli : List ℕ) (steps : ℕ) (status other : Status) (text more : List ℕ) →
+        IsOutputFor (Some files) (Simulate file stimuli steps) status text → IsOutputFor (Some files) (Simulate file stimuli steps) other more →
+        status ≢ Status.Past → other ≢ Status.Past → (status ≡ other) × (text ≡ more) }
+{
+    one_reading();
+    one_program();
+    one_answer();
+    one_deep_place();
+    one_wrong_place();
+    agreeing_programs_show_the_same();
+    more_statements_go_on();
+    models_are_well_formed();
+}
+
+/// Where the model comes to an end with n units of work for the start and for each stimulus of a file, a run of a program
+/// that agrees with it is not cut short, as long as it has n times the program's size and one more statements or more.
+pub fn enough_is_enough()
+    ensures { (model : Model) (program : CProgram) → SameBehaviour model program → UsesBasicStatesOnly model → (text : List ℕ) (n : ℕ) → 1 ≤ n →
+        has_past (sdl model (given (stims_of model text).list) n) ≡ false → (steps : ℕ) → enough program n ≤ steps →
+        run_outcome model program text steps ≢ outcome.Past }
+{
+    more_statements_go_on();
+}
 
 /// Words ask for at most one command.
 pub fn one_command()

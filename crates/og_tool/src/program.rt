@@ -1,6 +1,6 @@
 //! Programs of the C subset that are run over a model.
 ghost use Rattle.std.specs.Prelude.{◌≡◌, IfOk, IfErr};
-ghost use Rattle.og_tool.specs.Loading.{IsLoaded, IsLoadedWith, Agrees, TellsProgram, TellsForm, TellsRule};
+ghost use Rattle.og_tool.specs.Loading.{IsLoaded, IsLoadedWith, Agrees, TellsProgram, TellsForm, TellsRule, unread_as, unloaded_as};
 ghost use Rattle.og_tool.specs.Compiled.{IsCompiled};
 ghost use Rattle.og_tool.specs.Programs.{IsTextOfProgram};
 ghost use Rattle.og_tool.specs.declared.program.ProgramError.TheVariants.{NoMemory as OutOfMemory};
@@ -65,9 +65,18 @@ fn read_program(alloc: Global, bytes: &[u8]) -> Result<CProgram, ProgramError>
 {
     match read_c(alloc, bytes) {
         Ok(program) => Ok(program),
-        Err(CReadError::Bad(place)) => Err(ProgramError::Bad(BadProgram::NoForm(place))),
-        Err(CReadError::TooDeep(place)) => Err(ProgramError::Bad(BadProgram::TooDeep(place))),
-        Err(CReadError::NoMemory(met)) => Err(ProgramError::NoMemory(met)),
+        Err(error) => Err(unread(error)),
+    }
+}
+
+/// What is wrong with a text that gave no program.
+fn unread(error: CReadError) -> ProgramError
+    ensures { result ≡ unread_as error }
+{
+    match error {
+        CReadError::Bad(place) => ProgramError::Bad(BadProgram::NoForm(place)),
+        CReadError::TooDeep(place) => ProgramError::Bad(BadProgram::TooDeep(place)),
+        CReadError::NoMemory(met) => ProgramError::NoMemory(met),
     }
 }
 
@@ -79,8 +88,28 @@ fn load(alloc: Global, program: &CProgram, model: &Model) -> Result<Loaded, Prog
     let regions = number(alloc, model)?;
     match Machine::load(alloc, program, model, &regions) {
         Ok(machine) => Ok(Loaded { machine, regions }),
-        Err(LoadError::BadProgram(rule)) => Err(ProgramError::Bad(BadProgram::Breaks(rule))),
-        Err(LoadError::NoMemory(met)) => Err(ProgramError::NoMemory(met)),
+        Err(error) => Err(unloaded(error)),
+    }
+}
+
+/// What is wrong with a program that could not be loaded.
+fn unloaded(error: LoadError) -> ProgramError
+    ensures { result ≡ unloaded_as error }
+{
+    match error {
+        LoadError::BadProgram(rule) => ProgramError::Bad(BadProgram::Breaks(rule)),
+        LoadError::NoMemory(met) => ProgramError::NoMemory(met),
+    }
+}
+
+/// What is wrong with a program's file, or that memory could not be had.
+pub fn reason_of(error: ProgramError) -> Result<BadProgram, NoMemory>
+    ensures bad { IfOk result (λ bad. error ≡ ProgramError.Bad bad) }
+    ensures no_memory { IfErr result (λ met. error ≡ ProgramError.NoMemory met) }
+{
+    match error {
+        ProgramError::Bad(bad) => Ok(bad),
+        ProgramError::NoMemory(met) => Err(met),
     }
 }
 

@@ -1,5 +1,5 @@
 //! Model files that are read, checked and built.
-ghost use Rattle.std.specs.Prelude.{◌≡◌, ℕ, ◌≤◌, ◌∷◌, ◌<◌, List, None, length, IfOk, IfErr, IsErrOf};
+ghost use Rattle.std.specs.Prelude.{◌≡◌, ℕ, ◌≤◌, ◌∷◌, ◌<◌, List, None, length, IfOk, IfErr, OnOk, IsErrOf};
 ghost use Rattle.og_base.specs.declared.Rule.TheVariants as rule;
 ghost use Rattle.og_base.specs.Store.{Rose, HoldsMore};
 ghost use Rattle.og_lexer.specs.declared.Spanned.{Spanned};
@@ -42,8 +42,21 @@ pub fn read_model<S: Store>(
     let bytes = read_all(alloc, store, file, LIMIT)?;
     match model_of_bytes(alloc, &bytes) {
         Ok(model) => Ok(ModelFile::Accepted(model)),
-        Err(ModelError::NoMemory(met)) => Err(ReadError::NoMemory(met)),
-        Err(ModelError::Broken(violation)) => Ok(refused(alloc, file.as_bytes(), violation)?),
+        Err(error) => {
+            let violation = violation_of(error)?;
+            Ok(refused(alloc, file.as_bytes(), violation)?)
+        }
+    }
+}
+
+/// The violation of a file, or that memory could not be had.
+fn violation_of(error: ModelError) -> Result<Violation, NoMemory>
+    ensures broken { IfOk result (λ violation. error ≡ ModelError.Broken violation) }
+    ensures no_memory { IfErr result (λ met. error ≡ ModelError.NoMemory met) }
+{
+    match error {
+        ModelError::Broken(violation) => Ok(violation),
+        ModelError::NoMemory(met) => Err(met),
     }
 }
 
@@ -63,9 +76,22 @@ fn model_of_bytes(alloc: Global, bytes: &[u8]) -> Result<Model, ModelError>
     let lexed = lex_sdl(alloc, 0, bytes)?;
     let tokens = lexed.tokens.as_slice();
     match parse_system(alloc, tokens) {
-        Err(ParseError::NoMemory(met)) => Err(ModelError::NoMemory(met)),
-        Err(ParseError::NoSentence) => Err(no_sentence(tokens)),
+        Err(error) => {
+            no_sentence_in(error)?;
+            Err(no_sentence(tokens))
+        }
         Ok(system) => model_of_system(alloc, &system),
+    }
+}
+
+/// The tokens are no sentence, or memory could not be had.
+fn no_sentence_in(error: ParseError) -> Result<(), NoMemory>
+    ensures no_sentence { OnOk result (error ≡ ParseError.NoSentence) }
+    ensures no_memory { IfErr result (λ met. error ≡ ParseError.NoMemory met) }
+{
+    match error {
+        ParseError::NoSentence => Ok(()),
+        ParseError::NoMemory(met) => Err(met),
     }
 }
 

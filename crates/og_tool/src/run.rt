@@ -1,7 +1,7 @@
 //! The top call.
 ghost use Rattle.std.specs.Prelude.{◌≡◌, ◌≤◌, ◌↔◌, ℕ, List, map, string_bytes, IfOk, IsErrOf};
 ghost use Rattle.og_base.specs.Store.{Rose};
-ghost use Rattle.og_tool.specs.Answering.{CommandAnswer};
+ghost use Rattle.og_tool.specs.Answering.{CommandAnswer, unread_status};
 ghost use Rattle.og_tool.specs.Answers.{IsOutputFor, FailedFor, IsTooLargeFor, Wrote, WroteSome, FailedToRead, IsTooLarge};
 ghost use Rattle.og_tool.specs.Asked.{asked};
 ghost use Rattle.og_tool.specs.Words.{Compile, IsNoCommand, AskForRun};
@@ -38,7 +38,8 @@ pub fn run_tool<S: Store, K: Sink>(
     // The C of a model is never stuck: only the words of `run` can give this status.
     ensures never_stuck { result ≡ Status.Stuck → AskForRun (map string_bytes words.now.items) }
 
-    // Reading a file of the words failed, or one has too many bytes, where nothing before it is wrong, and nothing is written.
+    // Reading a file of the words failed, or one has too many bytes, and nothing is written. Of the files before it, as far
+    // as the store tells what they hold, the model is accepted and the program can be run.
     ensures read_fault { result ≡ Status.ReadFault → FailedToRead (map string_bytes words.now.items) (S.holds store.old) (S.faults store.old) (S.faults store.new) }
     ensures read_fault_writes_nothing { result ≡ Status.ReadFault → K.written out.new ≡ K.written out.old }
     ensures too_large { result ≡ Status.TooLarge → IsTooLarge (map string_bytes words.now.items) (S.holds store.old) }
@@ -75,13 +76,22 @@ fn carry_out<S: Store, K: Sink>(
     ensures sink_counts { K.faults out.old ≤ K.faults out.new }
 {
     match output_of(alloc, command, store) {
-        Err(ReadError::Fault) => Status::ReadFault,
-        Err(ReadError::TooLarge) => Status::TooLarge,
-        Err(ReadError::NoMemory(_)) => Status::NoMemory,
+        Err(error) => unread(error),
         Ok(output) => match write_all(out, &output.text) {
             Ok(()) => output.status,
             Err(_) => Status::WriteFault,
         },
+    }
+}
+
+/// The status where no output was made.
+fn unread(error: ReadError) -> Status
+    ensures { result ≡ unread_status error }
+{
+    match error {
+        ReadError::Fault => Status::ReadFault,
+        ReadError::TooLarge => Status::TooLarge,
+        ReadError::NoMemory(_) => Status::NoMemory,
     }
 }
 

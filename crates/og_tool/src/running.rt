@@ -11,7 +11,7 @@ ghost use Rattle.og_tool.specs.Ready.{CanRun};
 ghost use Rattle.og_tool.specs.Words.{Run, Simulate};
 
 use crate::compile::compile;
-use crate::program::{BadProgram, Loaded, ProgramError, load_compiled, load_text};
+use crate::program::{BadProgram, Loaded, load_compiled, load_text, reason_of};
 use crate::reading::{LIMIT, ModelFile, read_model};
 use crate::report::bad_program_line;
 use crate::status::Status;
@@ -74,8 +74,10 @@ fn run_over_model<S: Store>(
     let bytes = read_all(alloc, store, program, LIMIT)?;
     match load_text(alloc, &bytes, model) {
         Ok(loaded) => run_loaded(alloc, store, loaded, model, file, stimuli, steps),
-        Err(ProgramError::Bad(bad)) => Ok(bad_program(alloc, program.as_bytes(), bad)?),
-        Err(ProgramError::NoMemory(met)) => Err(ReadError::NoMemory(met)),
+        Err(error) => {
+            let bad = reason_of(error)?;
+            Ok(bad_program(alloc, program.as_bytes(), bad)?)
+        }
     }
 }
 

@@ -1,5 +1,5 @@
 //! All stimuli of a file.
-ghost use Rattle.std.specs.Prelude.{◌≡◌, ◌≤◌, ◌∷◌, length, IfOk};
+ghost use Rattle.std.specs.Prelude.{◌≡◌, ◌≤◌, ◌∷◌, length, IfOk, IfErr};
 ghost use Rattle.std.specs.Option.{option_map};
 ghost use Rattle.og_model.specs.declared.StimId.TheVariants.{Start};
 ghost use Rattle.og_trace.specs.Stims.{stims_of};
@@ -38,13 +38,24 @@ pub fn stimuli_of(alloc: Global, model: &Model, text: &[u8]) -> Result<Listed, N
         match next_stimulus(alloc, model, text, &mut cursor) {
             Ok(None) => return Ok(Listed { ids, bad: None }),
             Ok(Some(stimulus)) => ids.push(stimulus.id)?,
-            Err(StimError::Bad { line, rule }) => {
+            Err(error) => {
+                let bad = bad_line(error)?;
                 return Ok(Listed {
                     ids,
-                    bad: Some(Bad { line, rule }),
+                    bad: Some(bad),
                 });
             }
-            Err(StimError::NoMemory(met)) => return Err(met),
         }
+    }
+}
+
+/// The line that breaks a rule, or that memory could not be had.
+fn bad_line(error: StimError) -> Result<Bad, NoMemory>
+    ensures bad { IfOk result (λ bad. error ≡ StimError.Bad bad.line bad.rule) }
+    ensures no_memory { IfErr result (λ met. error ≡ StimError.NoMemory met) }
+{
+    match error {
+        StimError::Bad { line, rule } => Ok(Bad { line, rule }),
+        StimError::NoMemory(met) => Err(met),
     }
 }

@@ -1,0 +1,22 @@
+use Rattle.og_tool.proofs.OneSimulation as simulation
+use Rattle.og_tool.proofs.output_laws.one_simulation.Goals as goal
+
+pub returns : goal.returns
+returns c =
+    simulation.one_simulation
+    (record {
+      texts = c.one_reading.ensures.tokens;
+      lexicals = c.one_reading.ensures.violation;
+      apart = c.one_reading.ensures.apart;
+      programs = c.one_program.ensures;
+      not_deep = c.one_answer.ensures.not_spelt_and_deep;
+      not_bad = c.one_answer.ensures.not_spelt_and_bad;
+      not_both = c.one_answer.ensures.not_deep_and_bad;
+      one_deep = c.one_deep_place.ensures.unique;
+      one_wrong = c.one_wrong_place.ensures.unique;
+    })
+    (record {
+      shown = c.agreeing_programs_show_the_same.ensures.some_statements;
+      more = c.more_statements_go_on.ensures.same;
+      basic = c.models_are_well_formed.ensures.basic;
+    })
