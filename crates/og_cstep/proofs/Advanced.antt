@@ -14,9 +14,9 @@ use Rattle.og_csubset.specs.declared.CProgram.{CProgram}
 use Rattle.og_csubset.specs.Kinds.{global_names}
 use Rattle.og_csubset.specs.Interface.{duration_of, outputs_of}
 use Rattle.og_csubset.specs.Reads.{Globals, event_shown, values_of, duration_in, end_of}
-use Rattle.og_clink.specs.declared.position.Position.{Position}
-use Rattle.og_clink.specs.Positions.{config_of}
-use Rattle.og_clink.specs.Links.{Calls, cells_after}
+use Rattle.og_cstatement.specs.declared.position.Position.{Position}
+use Rattle.og_cstatement.specs.Positions.{config_of}
+use Rattle.og_cstatement.specs.Links.{Calls, cells_after}
 use Rattle.og_cstep.specs.declared.Advance.{Advance}
 use Rattle.og_cstep.specs.declared.Advance.TheVariants as advance
 use Rattle.og_cstep.specs.Answered.{id_of, answer_by, AnswersBy, Answers}

@@ -10,8 +10,8 @@ use Rattle.og_csubset.specs.Interface.{Field, inputs_of}
 use Rattle.og_csubset.specs.Reads.{inputs_set}
 use Rattle.og_csubset.specs.Run.{entered, begun}
 use Rattle.og_cstep.specs.declared.Advance.{Advance}
-use Rattle.og_clink.specs.declared.position.Position.{Position}
-use Rattle.og_clink.specs.Positions.{config_of}
+use Rattle.og_cstatement.specs.declared.position.Position.{Position}
+use Rattle.og_cstatement.specs.Positions.{config_of}
 use Rattle.og_cstep.specs.Machines.{Run, stimulus_of, function_name, begins}
 
 nothing_set : (model : Model) (names : List (List ℕ)) (fields : List Field) (cells : List Cells) → inputs_set model names fields [] cells ≡ cells

@@ -14,9 +14,9 @@ use Rattle.og_csubset.specs.Reads.{put_named, cells_of_shape}
 use Rattle.og_ccells.specs.declared.cells.Tree.{Tree}
 use Rattle.og_ccells.specs.Trees.{cells_of}
 use Rattle.og_ccells.proofs.Celled.{cells_Cell}
-use Rattle.og_clink.specs.declared.position.Position.{Position}
-use Rattle.og_clink.specs.declared.position.Position.TheVariants.{Running, Idle, Stuck}
-use Rattle.og_clink.specs.Positions.{config_of}
+use Rattle.og_cstatement.specs.declared.position.Position.{Position}
+use Rattle.og_cstatement.specs.declared.position.Position.TheVariants.{Running, Idle, Stuck}
+use Rattle.og_cstatement.specs.Positions.{config_of}
 use Rattle.og_cstep.specs.declared.Advance.{Advance}
 use Rattle.og_cstep.specs.Inputs.{input_slot, shape_cells, put_slot}
 use Rattle.og_cstep.specs.Interfaces.{interface_among, slot_named, kept_shape}

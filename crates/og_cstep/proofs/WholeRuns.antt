@@ -14,7 +14,7 @@ use Rattle.og_csubset.specs.declared.CProgram.{CProgram}
 use Rattle.og_csubset.specs.Kinds.{global_names, first_globals}
 use Rattle.og_csubset.specs.Reads.{end_of}
 use Rattle.og_csubset.specs.Run.{goes_on, shown_by, runs, c, c_machine}
-use Rattle.og_clink.specs.Links.{step_of, cells_after}
+use Rattle.og_cstatement.specs.Links.{step_of, cells_after}
 use Rattle.og_cstep.specs.declared.Advance.{Advance}
 use Rattle.og_cstep.specs.declared.Advance.TheVariants as advance
 use Rattle.og_cstep.specs.Answered.{id_of, answer_by, answer_at_end}

@@ -13,8 +13,8 @@ use Rattle.og_csubset.specs.Reads.{Globals, event_shown}
 use Rattle.og_csubset.specs.Run.{rule_of}
 use Rattle.og_ccells.specs.declared.cells.Tree.{Tree}
 use Rattle.og_ccells.specs.Trees.{cells_of}
-use Rattle.og_clink.specs.declared.position.Position.{Position}
-use Rattle.og_clink.specs.declared.position.Position.TheVariants as position
+use Rattle.og_cstatement.specs.declared.position.Position.{Position}
+use Rattle.og_cstatement.specs.declared.position.Position.TheVariants as position
 use Rattle.og_cstep.specs.declared.Advance.{Advance}
 use Rattle.og_cstep.specs.declared.Advance.TheVariants as advance
 use Rattle.og_cstep.specs.declared.Advance.TheVariants.{Moved, Event, Rest, Fault, Stopped}

@@ -22,9 +22,9 @@ use Rattle.og_csubset.specs.Interface.{Field, region_field, timer_field, duratio
 use Rattle.og_csubset.specs.Reads.{Globals, number_named, duration_in, put_named, cells_of_shape, end_of}
 use Rattle.og_csubset.specs.Run.{begun}
 use Rattle.og_ccells.specs.Trees.{cells_of}
-use Rattle.og_clink.specs.declared.position.Position.{Position}
-use Rattle.og_clink.specs.Positions.{config_of}
-use Rattle.og_clink.specs.Links.{cells_after, step_of}
+use Rattle.og_cstatement.specs.declared.position.Position.{Position}
+use Rattle.og_cstatement.specs.Positions.{config_of}
+use Rattle.og_cstatement.specs.Links.{cells_after, step_of}
 use Rattle.og_cstep.specs.Answered.{answer_by}
 use Rattle.og_cstep.specs.declared.Advance.{Advance}
 use Rattle.og_cstep.specs.declared.Advance.TheVariants as advance

@@ -4,7 +4,7 @@ ghost use Rattle.og_cstep.specs.Halted.{stuck_rule};
 ghost use Rattle.og_cstep.specs.Machines.{run_of};
 
 use crate::Machine;
-use og_clink::Position;
+use og_cstatement::Position;
 use og_model::StuckRule;
 
 impl Machine {

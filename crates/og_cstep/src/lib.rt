@@ -2,7 +2,7 @@
 #![tactic(auto)]
 
 ghost use Rattle.std.specs.Prelude.{◌≡◌};
-ghost use Rattle.og_clink.specs.Links.{linked_of};
+ghost use Rattle.og_cstatement.specs.Links.{linked_of};
 ghost use Rattle.og_cstep.specs.Interfaces.{interface_of};
 
 mod ends;
@@ -17,7 +17,7 @@ mod stepping;
 use interface::Interface;
 use og_base::Place;
 use og_ccells::Tree;
-use og_clink::{Linked, Position};
+use og_cstatement::{Linked, Position};
 use og_csubset::CProgram;
 pub use og_csubset::LoadRule;
 use og_model::Model;

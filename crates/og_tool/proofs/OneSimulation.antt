@@ -113,8 +113,8 @@ module _ (laws : RunLaws) (M : Model) (basic : UsesBasicStatesOnly M) (P Q : CPr
       let same = same_over_file x.bytes steps (λ e. p (x.ends ∙ ap status_of e)) (λ e. q (ends ∙ ap status_of e)) in (
         x.ends ∙ ap (λ shown. status_of (outcome_of (at_file_end bad) shown)) same ∙ sym ends,
         x.is
-        ∙ ap (λ shown. trace_of M (record { bytes = file } ∷ []) (Start ∷ (stims_of M x.bytes).list) shown ++ line_if_bad (outcome_of (at_file_end bad) shown) stimuli bad) same
-        ∙ sym is,
+            ∙ ap (λ shown. trace_of M (record { bytes = file } ∷ []) (Start ∷ (stims_of M x.bytes).list) shown ++ line_if_bad (outcome_of (at_file_end bad) shown) stimuli bad) same
+            ∙ sym is,
       )
 
 pub one_simulation : Laws → RunLaws → (files : Files) (file stimuli : List ℕ) (steps : ℕ) (one two : Status) (text more : List ℕ)

@@ -15,8 +15,8 @@ ghost use Rattle.og_trace.specs.declared.Outcome.TheVariants as outcome;
 ghost use Rattle.og_tool.specs.Words.{Command, Compile, Run, Simulate, AsksFor};
 
 use og_csubset::{
-    agreeing_programs_show_the_same, more_statements_go_on, one_answer, one_deep_place, one_program,
-    one_wrong_place,
+    agreeing_programs_show_the_same, more_statements_go_on, one_answer, one_deep_place,
+    one_program, one_wrong_place,
 };
 use og_front::models_are_well_formed;
 use og_lexer::one_reading;

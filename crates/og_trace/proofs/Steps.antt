@@ -29,7 +29,7 @@ use Rattle.og_cstep.specs.declared.Advance.{Advance}
 use Rattle.og_cstep.specs.declared.Advance.TheVariants as advance
 use Rattle.og_cstep.specs.Answered.{id_of, answer_by, answer_at_end}
 use Rattle.og_cstep.specs.Machines.{Run, advanced, answer_of, next_step, globals_of}
-use Rattle.og_clink.specs.Links.{cells_after}
+use Rattle.og_cstatement.specs.Links.{cells_after}
 use Rattle.og_stim.specs.Trace.{Bytes, event_line}
 use Rattle.og_csubset.specs.Run.{c_machine}
 use Rattle.og_trace.specs.Entries.{event_seen, answer_lines, end_at, is_end, IsLive, HasCells, IsLast, StandsAt}

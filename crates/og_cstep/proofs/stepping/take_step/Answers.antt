@@ -1,6 +1,6 @@
 use Rattle.std.proofs.Common.{map, subst}
 use Rattle.og_ccells.specs.Trees.{cells_of}
-use Rattle.og_clink.specs.Links.{IsStep}
+use Rattle.og_cstatement.specs.Links.{IsStep}
 use Rattle.og_cstep.specs.Answered.{Answers}
 use Rattle.og_cstep.proofs.Advanced.{shown_run}
 use Rattle.og_cstep.proofs.stepping.take_step.Goals as goal
