@@ -40,7 +40,7 @@ split_of parts (Many p) behind k h =
 split_of parts (NotBefore t) behind k h = inr (refl, without_has behind t k h)
 
 -- where more stands behind, more is ahead
-or_grows : (begins a b k : ℕ) → (has a k ≡ true → has b k ≡ true) → has (bit_or begins a) k ≡ true → has (bit_or begins b) k ≡ true
+pub or_grows : (begins a b k : ℕ) → (has a k ≡ true → has b k ≡ true) → has (bit_or begins a) k ≡ true → has (bit_or begins b) k ≡ true
 or_grows begins a b k g h = elim (in_either begins a k h) [ inl x ↦ has-or_left begins b k x | inr y ↦ has-or_right begins b k (g y) ]
 
 cond_grows : (e : Bool) (a b k : ℕ) → (has a k ≡ true → has b k ≡ true) → has (cond e a 0) k ≡ true → has (cond e b 0) k ≡ true
@@ -98,7 +98,7 @@ tail_is e = cc
 number_is : {x y : ℕ} {xs ys : List ℕ} → x ∷ xs ≡ y ∷ ys → x ≡ y
 number_is e = cc
 
-cond_out : (e : Bool) (a k : ℕ) → has (cond e a 0) k ≡ true → has a k ≡ true
+pub cond_out : (e : Bool) (a k : ℕ) → has (cond e a 0) k ≡ true → has a k ≡ true
 cond_out true a k h = h
 cond_out false a k h = let f : has 0 k ≡ false = none k in absurd cc
 

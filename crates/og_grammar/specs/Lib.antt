@@ -1,3 +1,4 @@
 pub mod Sentence
 pub mod Predictive
 pub mod Rows
+pub mod Steps

@@ -5,6 +5,7 @@
 
 
 mod rows;
+mod run;
 
 
 
