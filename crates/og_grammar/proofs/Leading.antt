@@ -83,7 +83,7 @@ split parts (s ∷ ss) behind k h =
 
 -- ---- what begins where a derivation begins
 
-abbrev option : {A : Type 0} → A → Option A
+abbrev pub option : {A : Type 0} → A → Option A
 option x = Some x
 
 pub some_is : {A : Type 0} (x y : A) → option x ≡ option y → x ≡ y
@@ -165,3 +165,4 @@ leads table parts right (chosen {symbols = symbols} s' c way w d) (s ∷ front) 
     let inner = leads table parts right d (way ++ front) rest k ts behind joined f h in
     let before : has (ahead parts way (ahead parts front behind)) k ≡ true = subst (λ (n : ℕ). has n k ≡ true) (ahead-append parts way front behind) inner in
     subst (λ (x : Symbol). has (ahead_of parts x (ahead parts front behind)) k ≡ true) first (way_ahead table parts right s' c way (ahead parts front behind) k w before)
+

@@ -4,3 +4,5 @@ pub mod Leading
 pub mod Least
 pub mod Stack
 pub mod Choices
+pub mod Advances
+pub mod Entering

@@ -26,19 +26,21 @@ pub record IsBefore (table : List Symbol) (part : Part) (rest : List Symbol) : T
   pub goes : Goes table rest part.bars
 
 -- an optional part
-pub record IsOptionBefore (table : List Symbol) (part : Part) (rest : List Symbol) : Type 0 where
-  pub leads : Leads table rest part.follows
-  pub goes : Goes table rest part.bars
-  pub lacks : Lacks table rest part.begins
-  pub filled : part.empty ≡ false
+pub record IsOptionBefore (table : List Symbol) (parts : List Part) (p : ℕ) (rest : List Symbol) : Type 0 where
+  pub leads : Leads table rest (part_at parts p).follows
+  pub goes : Goes table rest (part_at parts p).bars
+  pub lacks : Lacks table rest (part_at parts p).begins
+  pub filled : (part_at parts p).empty ≡ false
+  pub there : p < length parts
 
 -- a repeated part
-pub record IsRepeatBefore (table : List Symbol) (part : Part) (rest : List Symbol) : Type 0 where
-  pub leads : Leads table rest part.follows
-  pub goes : Goes table rest part.bars
-  pub lacks : Lacks table rest part.begins
-  pub filled : part.empty ≡ false
-  pub again : is_within part.begins part.follows ≡ true
+pub record IsRepeatBefore (table : List Symbol) (parts : List Part) (p : ℕ) (rest : List Symbol) : Type 0 where
+  pub leads : Leads table rest (part_at parts p).follows
+  pub goes : Goes table rest (part_at parts p).bars
+  pub lacks : Lacks table rest (part_at parts p).begins
+  pub filled : (part_at parts p).empty ≡ false
+  pub there : p < length parts
+  pub again : is_within (part_at parts p).begins (part_at parts p).follows ≡ true
 
 abbrev pub MayStand : List Symbol → List Part → Symbol → List Symbol → Type 0
 MayStand table parts (Rule p) rest = Unit {0}
@@ -46,8 +48,8 @@ MayStand table parts (Token k) rest = Unit {0}
 MayStand table parts (Raising k) rest = Unit {0}
 MayStand table parts (symbol.Part p) rest = IsBefore table (part_at parts p) rest
 MayStand table parts (Scope p) rest = IsBefore table (part_at parts p) rest
-MayStand table parts (Maybe p) rest = IsOptionBefore table (part_at parts p) rest
-MayStand table parts (Many p) rest = IsRepeatBefore table (part_at parts p) rest
+MayStand table parts (Maybe p) rest = IsOptionBefore table parts p rest
+MayStand table parts (Many p) rest = IsRepeatBefore table parts p rest
 MayStand table parts (NotBefore k) rest = Goes table rest (2 ^ k)
 
 -- each symbol may stand before those behind it
@@ -142,13 +144,13 @@ out a b k h there = by (has a k) refl
     by false e = e
     by true e = let f : has b k ≡ false = apart_has a b k h e in absurd cc
 
-stand_by : (table : List Symbol) (parts : List Part) (s : Symbol) (rest : List Symbol) (set : ℕ) → may_follow parts s set ≡ true → Leads table rest set → Goes table rest (bars_of parts s) → MayStand table parts s rest
-stand_by table parts (Rule p) rest set m l g = tt
-stand_by table parts (Token k) rest set m l g = tt
-stand_by table parts (Raising k) rest set m l g = tt
-stand_by table parts (symbol.Part p) rest set m l g = record { leads = λ k ts cs d. within_has set (part_at parts p).follows k m (l k ts cs d); goes = g }
-stand_by table parts (Scope p) rest set m l g = record { leads = λ k ts cs d. within_has set (part_at parts p).follows k m (l k ts cs d); goes = g }
-stand_by table parts (Maybe p) rest set m l g =
+stand_by : (table : List Symbol) (parts : List Part) (s : Symbol) (rest : List Symbol) (set : ℕ) → is_known (length parts) s ≡ true → may_follow parts s set ≡ true → Leads table rest set → Goes table rest (bars_of parts s) → MayStand table parts s rest
+stand_by table parts (Rule p) rest set known m l g = tt
+stand_by table parts (Token k) rest set known m l g = tt
+stand_by table parts (Raising k) rest set known m l g = tt
+stand_by table parts (symbol.Part p) rest set known m l g = record { leads = λ k ts cs d. within_has set (part_at parts p).follows k m (l k ts cs d); goes = g }
+stand_by table parts (Scope p) rest set known m l g = record { leads = λ k ts cs d. within_has set (part_at parts p).follows k m (l k ts cs d); goes = g }
+stand_by table parts (Maybe p) rest set known m l g =
     let w = and_first (is_within set (part_at parts p).follows) _ m in
     let more = and_second (is_within set (part_at parts p).follows) _ m in
     let apart : are_apart (part_at parts p).begins set ≡ true = and_first _ _ more in
@@ -158,8 +160,9 @@ stand_by table parts (Maybe p) rest set m l g =
       goes = g;
       lacks = λ k ts cs d. out (part_at parts p).begins set k apart (l k ts cs d);
       filled = not_is (part_at parts p).empty filled;
+      there = lt_of p (length parts) known;
     }
-stand_by table parts (Many p) rest set m l g =
+stand_by table parts (Many p) rest set known m l g =
     let w = and_first (is_within set (part_at parts p).follows) _ m in
     let more = and_second (is_within set (part_at parts p).follows) _ m in
     let apart : are_apart (part_at parts p).begins set ≡ true = and_first _ _ more in
@@ -169,9 +172,10 @@ stand_by table parts (Many p) rest set m l g =
       goes = g;
       lacks = λ k ts cs d. out (part_at parts p).begins set k apart (l k ts cs d);
       filled = not_is (part_at parts p).empty (and_first _ _ most);
+      there = lt_of p (length parts) known;
       again = and_second (not (part_at parts p).empty) _ most;
     }
-stand_by table parts (NotBefore k) rest set m l g = g
+stand_by table parts (NotBefore k) rest set known m l g = g
 
 pub in_line : (table : List Symbol) (parts : List Part) → IsFit table parts → (ss rest : List Symbol) (follows bars : ℕ) → are_inner (length parts) ss ≡ true → are_placed parts ss follows bars ≡ true
     → Leads table rest follows → Goes table rest bars → AreInLine table parts rest → AreInLine table parts (ss ++ rest)
@@ -184,7 +188,8 @@ in_line table parts fit (s ∷ ss) rest follows bars inner placed l g line =
     let clear : is_clear (bars_of parts s) (lead_of parts ss) bars ≡ true = and_second (may_follow parts s (ahead parts ss follows)) _ here in
     let some = all_go table parts fit ss rest follows bars inner_ss there g in
     let begins : Leads table (ss ++ rest) (ahead parts ss follows) = λ k ts cs d. leads table parts fit.right d ss rest k ts follows refl refl (λ cs' d'. l k ts cs' d') in
-    (stand_by table parts s (ss ++ rest) (ahead parts ss follows) follow begins (some.0, some.1, some.2, clear_avoids (bars_of parts s) (lead_of parts ss) bars some.0 g.0 clear some.3 g.3),
+    let known : is_known (length parts) s ≡ true = and_second (is_inner s) _ (and_first (is_inner s && is_known (length parts) s) (are_inner (length parts) ss) inner) in
+    (stand_by table parts s (ss ++ rest) (ahead parts ss follows) known follow begins (some.0, some.1, some.2, clear_avoids (bars_of parts s) (lead_of parts ss) bars some.0 g.0 clear some.3 g.3),
     in_line table parts fit ss rest follows bars inner_ss there l g line)
 
 pub avoids_none : (ts : List ℕ) → Avoids 0 ts

@@ -86,13 +86,13 @@ entered count symbol way due = expected way (if is_scope symbol then Restore cou
 
 -- by these choices what is due has tokens after which the nesting is as these counts say, one for each token
 pub data Nests (table : List Symbol) : ℕ → List Due → List ℕ → List ℕ → Type 0 where
-  nothing : {count : ℕ} → Nests table count [] [] []
-  token : {count k : ℕ} {due : List Due} {choices counts : List ℕ} → Nests table count due choices counts → Nests table count (Expect (Token k) ∷ due) choices (count ∷ counts)
-  raising : {count k : ℕ} {due : List Due} {choices counts : List ℕ} → Nests table (suc count) due choices counts → Nests table count (Expect (Raising k) ∷ due) choices (suc count ∷ counts)
-  restores : {count before : ℕ} {due : List Due} {choices counts : List ℕ} → Nests table before due choices counts → Nests table count (Restore before ∷ due) choices counts
-  passes : {count k : ℕ} {due : List Due} {choices counts : List ℕ} → Nests table count due choices counts → Nests table count (Expect (NotBefore k) ∷ due) choices counts
-  chosen : {count : ℕ} {due : List Due} {choices counts : List ℕ} (symbol : Symbol) (choice : ℕ) (way : List Symbol) → slice_get (ways table symbol) choice ≡ Some way
-    → Nests table count (entered count symbol way due) choices counts → Nests table count (Expect symbol ∷ due) (choice ∷ choices) counts
+  ends : {count : ℕ} → Nests table count [] [] []
+  keeps : {count k : ℕ} {due : List Due} {choices after : List ℕ} → Nests table count due choices after → Nests table count (Expect (Token k) ∷ due) choices (count ∷ after)
+  rises : {count k : ℕ} {due : List Due} {choices after : List ℕ} → Nests table (suc count) due choices after → Nests table count (Expect (Raising k) ∷ due) choices (suc count ∷ after)
+  restores : {count before : ℕ} {due : List Due} {choices after : List ℕ} → Nests table before due choices after → Nests table count (Restore before ∷ due) choices after
+  skips : {count k : ℕ} {due : List Due} {choices after : List ℕ} → Nests table count due choices after → Nests table count (Expect (NotBefore k) ∷ due) choices after
+  takes : {count : ℕ} {due : List Due} {choices after : List ℕ} (symbol : Symbol) (choice : ℕ) (way : List Symbol) → slice_get (ways table symbol) choice ≡ Some way
+    → Nests table count (entered count symbol way due) choices after → Nests table count (Expect symbol ∷ due) (choice ∷ choices) after
 
 -- after each of its tokens a sentence of these choices nests as deep as these counts say
 abbrev pub NestsAs : List Symbol → ℕ → List ℕ → List ℕ → Type 0
