@@ -6,3 +6,5 @@ pub mod Stack
 pub mod Choices
 pub mod Advances
 pub mod Entering
+pub mod Telling
+pub mod Sound

@@ -132,7 +132,7 @@ all_go table parts fit ss rest follows bars inner placed g =
     let r = ranks_of parts ss inner in
     list_gives table parts r.0 (part_gives table parts fit.right fit.least r.0) ss rest follows bars g.0 g.1 r.1 placed g.2 g.3
 
-not_is : (b : Bool) → not b ≡ true → b ≡ false
+pub not_is : (b : Bool) → not b ≡ true → b ≡ false
 not_is true h = absurd cc
 not_is false h = refl
 
