@@ -39,6 +39,12 @@ weight_due parts [] = 0
 weight_due parts (Restore count ∷ due) = suc (weight_due parts due)
 weight_due parts (Expect s ∷ due) = weight_of parts s + cond (is_empty parts s) (weight_due parts due) 0
 
+-- the nesting that is restored later passes no limit
+abbrev pub AreLow : ℕ → List Due → Type 0
+AreLow limit [] = Unit {0}
+AreLow limit (Restore count ∷ due) = (count ≤ limit) × AreLow limit due
+AreLow limit (Expect s ∷ due) = AreLow limit due
+
 -- before a token of kind k, one state leads to another by these choices
 pub record Advances (table : List Symbol) (parts : List Part) (last k : ℕ) (old : List Due) (old_count : ℕ) (new : List Due) (new_count : ℕ) (made : List ℕ) : Type 0 where
   pub fore : (ts cs : List ℕ) → Derives table (symbols_due new) (k ∷ ts) cs → Derives table (symbols_due old) (k ∷ ts) (made ++ cs)
@@ -47,6 +53,7 @@ pub record Advances (table : List Symbol) (parts : List Part) (last k : ℕ) (ol
   pub line : AreInLine table parts (symbols_due new)
   pub goes : Goes table (symbols_due new) 0
   pub bottom : IsBottomed last new
+  pub low : (limit : ℕ) → old_count ≤ limit → AreLow limit old → (new_count ≤ limit) × AreLow limit new
 
 pub stays : (table : List Symbol) (parts : List Part) (last k : ℕ) (due : List Due) (count : ℕ) → AreInLine table parts (symbols_due due) → Goes table (symbols_due due) 0 → IsBottomed last due
     → Advances table parts last k due count due count []
@@ -57,6 +64,7 @@ stays table parts last k due count line goes bottom = record {
   line = line;
   goes = goes;
   bottom = bottom;
+  low = λ limit le low. (le, low);
 }
 
 pub goes_on : (table : List Symbol) (parts : List Part) (last k : ℕ) (a b c : List Due) (a_count b_count c_count : ℕ) (first second : List ℕ)
@@ -71,6 +79,7 @@ goes_on table parts last k a b c a_count b_count c_count first second x y = reco
   line = y.line;
   goes = y.goes;
   bottom = y.bottom;
+  low = λ limit le low. let l = x.low limit le low in y.low limit l.0 l.1;
 }
 
 -- ---- what is entered
@@ -105,3 +114,14 @@ bottom_entered last count s way due other b = by (is_scope s)
     by : (scope : Bool) → IsBottomed last (expected way (cond scope (Restore count ∷ due) due))
     by true = subst (IsBottomed last) (append_assoc (expected way []) (Restore count ∷ []) due ∙ sym (expected_front way (Restore count ∷ due))) (under last (Expect s) due (expected way [] ++ Restore count ∷ []) other b)
     by false = subst (IsBottomed last) (sym (expected_front way due)) (under last (Expect s) due (expected way []) other b)
+
+low_expected : (limit : ℕ) (ss : List Symbol) (due : List Due) → AreLow limit due → AreLow limit (expected ss due)
+low_expected limit [] due h = h
+low_expected limit (s ∷ ss) due h = low_expected limit ss due h
+
+pub low_entered : (limit count : ℕ) (s : Symbol) (way : List Symbol) (due : List Due) → count ≤ limit → AreLow limit due → AreLow limit (entered count s way due)
+low_entered limit count s way due le h = low_expected limit way (cond (is_scope s) (Restore count ∷ due) due) (by (is_scope s))
+  where
+    by : (b : Bool) → AreLow limit (cond b (Restore count ∷ due) due)
+    by true = (le, h)
+    by false = h

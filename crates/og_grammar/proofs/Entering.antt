@@ -17,7 +17,7 @@ use Rattle.og_grammar.proofs.Leading.{some_is, head_is, tail_is, leads}
 use Rattle.og_grammar.proofs.Least.{Goes, Avoids, part_gives, rule_placed, lt_of}
 use Rattle.og_grammar.proofs.Stack.{IsFit, IsBefore, IsOptionBefore, IsRepeatBefore, Leads, Lacks, MayStand, AreInLine, avoids_none, in_line, all_go}
 use Rattle.og_grammar.proofs.Choices.{IsSound, IsForced, rows, leaves_choice, taken_way, forced}
-use Rattle.og_grammar.proofs.Advances.{symbols_due, IsBottomed, weight_due, Advances, due_entered, bottom_entered}
+use Rattle.og_grammar.proofs.Advances.{symbols_due, IsBottomed, weight_due, Advances, due_entered, bottom_entered, low_entered}
 
 -- what may be taken up in a way and behind it
 weight_expected : (parts : List Part) (ss : List Symbol) (due : List Due) → weight_due parts (expected ss due) ≡ weights parts ss + cond (are_empty parts ss) (weight_due parts due) 0
@@ -161,4 +161,5 @@ entering table parts last sound s c k count due l made m line bottom =
       line = subst (AreInLine table parts) (sym e) r.line;
       goes = subst (λ (x : List Symbol). Goes table x 0) (sym e) r.goes;
       bottom = bottom_entered last count s way due (no_token s last l) bottom;
+      low = λ limit le low. (le, low_entered limit count s way due le low);
     }

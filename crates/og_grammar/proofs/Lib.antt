@@ -8,3 +8,4 @@ pub mod Advances
 pub mod Entering
 pub mod Telling
 pub mod Sound
+pub mod Standing

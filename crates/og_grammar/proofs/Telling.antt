@@ -57,6 +57,7 @@ module _ (table : List Symbol) (parts : List Part) (last : ℕ) (sound : IsSound
         line = ready.line;
         goes = ready.goes;
         bottom = under last (Restore before) due [] (λ e. cc) bottom;
+        low = λ limit le low. low;
       }, omega arith)
 
   plain_by : (t : ℕ) (due : List Due) (b : Bool) → nat_eq t k ≡ b
@@ -81,6 +82,7 @@ module _ (table : List Symbol) (parts : List Part) (last : ℕ) (sound : IsSound
         line = ready.line.1;
         goes = (ready.goes.0, ready.goes.1, behind.1, avoids_none ready.goes.0);
         bottom = under last (Expect (NotBefore t)) due [] (λ e. cc) bottom;
+        low = λ limit le low. (le, low);
       }, omega arith)
 
   choice_by : (s : Symbol) (due : List Due) → leaves_choice s ≡ true → MayStand table parts s (symbols_due due) → IsReady table parts (s ∷ symbols_due due) → IsBottomed last (Expect s ∷ due)

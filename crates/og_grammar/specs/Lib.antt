@@ -2,3 +2,4 @@ pub mod Sentence
 pub mod Predictive
 pub mod Rows
 pub mod Steps
+pub mod Answers
