@@ -16,6 +16,7 @@ use Rattle.og_grammar.specs.Sentence as sentence
 use Rattle.og_grammar.specs.Predictive.{has, part_at, is_empty, are_empty, weight_of, weights}
 use Rattle.og_grammar.specs.Rows.{choice_of, way_of}
 use Rattle.og_grammar.specs.Steps.{Stepped, by_choice, met, stepped}
+pub use Rattle.og_grammar.specs.Standing.{symbols_due, IsBottomed, AreLow, Advances}
 use Rattle.og_grammar.proofs.Known.{and_first, and_second}
 use Rattle.og_grammar.proofs.Sets.{is_same, not_same}
 use Rattle.og_grammar.proofs.Leading.{some_is, head_is, tail_is}
@@ -23,37 +24,11 @@ use Rattle.og_grammar.proofs.Least.{Goes, Avoids}
 use Rattle.og_grammar.proofs.Stack.{Leads, Lacks, MayStand, AreInLine, avoids_none}
 use Rattle.og_grammar.proofs.Choices.{IsSound, IsForced, rows, leaves_choice, taken_way, forced}
 
--- the symbols that are due
-abbrev pub symbols_due : List Due → List Symbol
-symbols_due [] = []
-symbols_due (Expect s ∷ due) = s ∷ symbols_due due
-symbols_due (Restore count ∷ due) = symbols_due due
-
--- at the bottom is the last token, unless all is done
-abbrev pub IsBottomed : ℕ → List Due → Type 0
-IsBottomed last due = (due ≡ []) ⊎ ((front : List Due) × (due ≡ front ++ Expect (Token last) ∷ []))
-
 -- the weight of what may be taken up before the next token is
 abbrev pub weight_due : List Part → List Due → ℕ
 weight_due parts [] = 0
 weight_due parts (Restore count ∷ due) = suc (weight_due parts due)
 weight_due parts (Expect s ∷ due) = weight_of parts s + cond (is_empty parts s) (weight_due parts due) 0
-
--- the nesting that is restored later passes no limit
-abbrev pub AreLow : ℕ → List Due → Type 0
-AreLow limit [] = Unit {0}
-AreLow limit (Restore count ∷ due) = (count ≤ limit) × AreLow limit due
-AreLow limit (Expect s ∷ due) = AreLow limit due
-
--- before a token of kind k, one state leads to another by these choices
-pub record Advances (table : List Symbol) (parts : List Part) (last k : ℕ) (old : List Due) (old_count : ℕ) (new : List Due) (new_count : ℕ) (made : List ℕ) : Type 0 where
-  pub fore : (ts cs : List ℕ) → Derives table (symbols_due new) (k ∷ ts) cs → Derives table (symbols_due old) (k ∷ ts) (made ++ cs)
-  pub back : (ts cs : List ℕ) → Derives table (symbols_due old) (k ∷ ts) cs → (others : List ℕ) × (cs ≡ made ++ others) × Derives table (symbols_due new) (k ∷ ts) others
-  pub nests : (cs counts : List ℕ) → Nests table new_count new cs counts → Nests table old_count old (made ++ cs) counts
-  pub line : AreInLine table parts (symbols_due new)
-  pub goes : Goes table (symbols_due new) 0
-  pub bottom : IsBottomed last new
-  pub low : (limit : ℕ) → old_count ≤ limit → AreLow limit old → (new_count ≤ limit) × AreLow limit new
 
 pub stays : (table : List Symbol) (parts : List Part) (last k : ℕ) (due : List Due) (count : ℕ) → AreInLine table parts (symbols_due due) → Goes table (symbols_due due) 0 → IsBottomed last due
     → Advances table parts last k due count due count []

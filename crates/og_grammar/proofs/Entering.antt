@@ -11,6 +11,7 @@ use Rattle.og_grammar.specs.declared.Part.{Part}
 use Rattle.og_grammar.specs.Sentence.{rules_of, ways, is_scope, expected, entered, Derives, chosen, Nests, takes}
 use Rattle.og_grammar.specs.Predictive.{has, is_within, part_at, is_empty, are_empty, weight_of, weights, ahead, is_right_rule, are_placed}
 use Rattle.og_grammar.specs.Rows.{choice_of, way_of}
+pub use Rattle.og_grammar.specs.Standing.{IsReady}
 use Rattle.og_grammar.proofs.Known.{and_first, and_second}
 use Rattle.og_grammar.proofs.Sets.{in_either, has-pow, within_has}
 use Rattle.og_grammar.proofs.Leading.{some_is, head_is, tail_is, leads}
@@ -92,14 +93,10 @@ lighter table parts last sound (Many p) (suc (suc c)) k count way due l w m = ab
 
 -- ---- what is due after it is in line
 
-part_goes : (table : List Symbol) (parts : List Part) → IsFit table parts → (p : ℕ) (rest : List Symbol) → p < length parts → Goes table rest (part_at parts p).bars → Goes table (symbol.Part p ∷ rest) 0
+pub part_goes : (table : List Symbol) (parts : List Part) → IsFit table parts → (p : ℕ) (rest : List Symbol) → p < length parts → Goes table rest (part_at parts p).bars → Goes table (symbol.Part p ∷ rest) 0
 part_goes table parts fit p rest there g =
     let r = part_gives table parts fit.right fit.least (suc (part_at parts p).rank) p rest g.0 g.1 (omega arith) there g.2 g.3 in
     (r.0, r.1, r.2, avoids_none r.0)
-
-pub record IsReady (table : List Symbol) (parts : List Part) (symbols : List Symbol) : Type 0 where
-  pub line : AreInLine table parts symbols
-  pub goes : Goes table symbols 0
 
 plain : (table : List Symbol) (rest : List Symbol) (bars : ℕ) → Goes table rest bars → Goes table rest 0
 plain table rest bars g = (g.0, g.1, g.2, avoids_none g.0)

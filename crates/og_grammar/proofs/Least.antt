@@ -7,22 +7,14 @@ use Rattle.og_grammar.specs.declared.Symbol.TheVariants as symbol
 use Rattle.og_grammar.specs.declared.Part.{Part}
 use Rattle.og_grammar.specs.Sentence.{rules_of, ways, IsNotFirst, Derives, nothing, token, raising, passes, chosen}
 use Rattle.og_grammar.specs.Predictive.{has, is_within, are_apart, part_at, bars_of, lead_of, is_clear, are_placed, may_follow, ahead, is_ranked, are_ranked, is_right_rule, are_empty}
+pub use Rattle.og_grammar.specs.Standing.{Avoids, Goes}
 use Rattle.og_grammar.proofs.Known.{and_first, and_second}
 use Rattle.og_grammar.proofs.Sets.{is_same, not_same, none, has-pow, within_has, apart_has}
 use Rattle.og_grammar.proofs.Leading.{AreRight, some_is}
 
--- the first of the tokens is none of these kinds
-abbrev pub Avoids : ℕ → List ℕ → Type 0
-Avoids bars [] = Unit {0}
-Avoids bars (t ∷ ts) = has bars t ≡ false
-
 -- the tokens are those behind, or they begin with the one kind of the set
 abbrev pub Begun : ℕ → List ℕ → List ℕ → Type 0
 Begun lead tokens behind = ((lead ≡ 0) × (tokens ≡ behind)) ⊎ ((k : ℕ) × (more : List ℕ) × (tokens ≡ k ∷ more) × (lead ≡ 2 ^ k))
-
--- the symbols derive some tokens that begin with none of these kinds
-abbrev pub Goes : List Symbol → List Symbol → ℕ → Type 0
-Goes table symbols bars = (tokens : List ℕ) × (choices : List ℕ) × Derives table symbols tokens choices × Avoids bars tokens
 
 -- some tokens with this beginning
 abbrev pub Gives : List Symbol → List Symbol → ℕ → List ℕ → Type 0

@@ -9,3 +9,4 @@ pub mod Entering
 pub mod Telling
 pub mod Sound
 pub mod Standing
+pub mod Reaching

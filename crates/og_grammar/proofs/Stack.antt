@@ -8,54 +8,11 @@ use Rattle.og_grammar.specs.declared.Symbol.TheVariants as symbol
 use Rattle.og_grammar.specs.declared.Part.{Part}
 use Rattle.og_grammar.specs.Sentence.{rules_of, ways, IsNotFirst, Derives, nothing, token, raising, passes, chosen}
 use Rattle.og_grammar.specs.Predictive.{has, is_within, are_apart, part_at, bars_of, lead_of, is_clear, are_placed, may_follow, ahead, is_ranked, are_ranked, is_right_rule, is_known, are_known}
+pub use Rattle.og_grammar.specs.Standing.{Leads, Lacks, IsBefore, IsOptionBefore, IsRepeatBefore, MayStand, AreInLine}
 use Rattle.og_grammar.proofs.Known.{and_first, and_second, and_intro}
 use Rattle.og_grammar.proofs.Sets.{none, within_has, apart_has}
 use Rattle.og_grammar.proofs.Leading.{AreRight, some_is, leads, cond_out}
 use Rattle.og_grammar.proofs.Least.{Avoids, Begun, Goes, AllHaveLeast, Below, list_gives, part_gives, rule_placed, clear_avoids, lt_of}
-
--- whatever the symbols derive begins with one of these kinds; with none of them
-abbrev pub Leads : List Symbol → List Symbol → ℕ → Type 0
-Leads table rest kinds = (k : ℕ) (ts cs : List ℕ) → Derives table rest (k ∷ ts) cs → has kinds k ≡ true
-
-abbrev pub Lacks : List Symbol → List Symbol → ℕ → Type 0
-Lacks table rest kinds = (k : ℕ) (ts cs : List ℕ) → Derives table rest (k ∷ ts) cs → has kinds k ≡ false
-
--- a part that may stand before the rest
-pub record IsBefore (table : List Symbol) (part : Part) (rest : List Symbol) : Type 0 where
-  pub leads : Leads table rest part.follows
-  pub goes : Goes table rest part.bars
-
--- an optional part
-pub record IsOptionBefore (table : List Symbol) (parts : List Part) (p : ℕ) (rest : List Symbol) : Type 0 where
-  pub leads : Leads table rest (part_at parts p).follows
-  pub goes : Goes table rest (part_at parts p).bars
-  pub lacks : Lacks table rest (part_at parts p).begins
-  pub filled : (part_at parts p).empty ≡ false
-  pub there : p < length parts
-
--- a repeated part
-pub record IsRepeatBefore (table : List Symbol) (parts : List Part) (p : ℕ) (rest : List Symbol) : Type 0 where
-  pub leads : Leads table rest (part_at parts p).follows
-  pub goes : Goes table rest (part_at parts p).bars
-  pub lacks : Lacks table rest (part_at parts p).begins
-  pub filled : (part_at parts p).empty ≡ false
-  pub there : p < length parts
-  pub again : is_within (part_at parts p).begins (part_at parts p).follows ≡ true
-
-abbrev pub MayStand : List Symbol → List Part → Symbol → List Symbol → Type 0
-MayStand table parts (Rule p) rest = Unit {0}
-MayStand table parts (Token k) rest = Unit {0}
-MayStand table parts (Raising k) rest = Unit {0}
-MayStand table parts (symbol.Part p) rest = IsBefore table (part_at parts p) rest
-MayStand table parts (Scope p) rest = IsBefore table (part_at parts p) rest
-MayStand table parts (Maybe p) rest = IsOptionBefore table parts p rest
-MayStand table parts (Many p) rest = IsRepeatBefore table parts p rest
-MayStand table parts (NotBefore k) rest = Goes table rest (2 ^ k)
-
--- each symbol may stand before those behind it
-abbrev pub AreInLine : List Symbol → List Part → List Symbol → Type 0
-AreInLine table parts [] = Unit {0}
-AreInLine table parts (s ∷ rest) = MayStand table parts s rest × AreInLine table parts rest
 
 -- ---- ranks above those of all symbols
 

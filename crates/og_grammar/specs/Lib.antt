@@ -3,3 +3,4 @@ pub mod Predictive
 pub mod Rows
 pub mod Steps
 pub mod Answers
+pub mod Standing

@@ -1,9 +1,10 @@
 //! The state of a reader, and its steps before a token.
-ghost use Rattle.std.specs.Prelude.{◌≡◌, ◌++◌, ◌∷◌, [], OnOk, IfOk, reverse, slice_get};
+ghost use Rattle.std.specs.Prelude.{◌≡◌, ◌++◌, ◌∷◌, [], OnOk, IfOk, IsTrue, length, reverse, slice_get};
 ghost use Rattle.og_grammar.specs.Sentence.{expected, entered};
-ghost use Rattle.og_grammar.specs.Predictive.{part_at};
-ghost use Rattle.og_grammar.specs.Rows.{choice_of, place_in, row_choice, row_at, way_of};
+ghost use Rattle.og_grammar.specs.Predictive.{part_at, is_predictive};
+ghost use Rattle.og_grammar.specs.Rows.{rows_below, choice_of, place_in, row_choice, row_at, way_of};
 ghost use Rattle.og_grammar.specs.Steps.{StepsTo, by_choice, met, stepped};
+ghost use Rattle.og_grammar.specs.Standing.{symbols_due, IsBottomed, IsReady, Reaches};
 
 use crate::rows::{Row, has, part_at};
 use crate::{Due, Part, Symbol};
@@ -25,6 +26,29 @@ pub enum Step {
     Plain,
     Deeper,
     Wrong,
+}
+
+/// Steps up to the next token, of this kind: it is due, or it is wrong.
+pub fn reach(
+    table: &[Symbol],
+    rows: &[Items<Row>],
+    parts: &[Part],
+    last: u8,
+    kind: u8,
+    run: &mut Run,
+) -> Result<Step, AllocError>
+    requires test { IsTrue (is_predictive table.now parts.now last) }
+    requires rows { rows.now ≡ rows_below table.now parts.now (length parts.now) }
+    requires ready { IsReady table.now parts.now (symbols_due (reverse run.old.due)) }
+    requires bottom { IsBottomed last (reverse run.old.due) }
+    ensures { IfOk result (λ by. Reaches table.now parts.now last kind run.old run.new by) }
+{
+    'steps: loop {
+        match take_step(rows, parts, kind, run)? {
+            Step::On => {}
+            met => return Ok(met),
+        }
+    }
 }
 
 /// One step before a token of this kind.
