@@ -40,6 +40,7 @@ neither a b k h = (by_a (has a k) refl, by_b (has b k) refl)
     by_a : (here : Bool) → has a k ≡ here → has a k ≡ false
     by_a false e = e
     by_a true e = let f : has (bit_or a b) k ≡ true = has-or_left a b k e in absurd cc
+
     by_b : (here : Bool) → has b k ≡ here → has b k ≡ false
     by_b false e = e
     by_b true e = let f : has (bit_or a b) k ≡ true = has-or_right a b k e in absurd cc
@@ -170,9 +171,10 @@ part_choice table parts last sound p c k way w h =
     let there = sound.there p c way w in
     let own : slice_get (rows table parts) p ≡ Some (rows_of p table parts (part_at parts p).follows) = rows_at table parts (length parts) p there in
     let place : place_in (rows_of p table parts (part_at parts p).follows) k ≡ Some c = placed_at parts (part_at parts p) (rules_of p table) c way k (sound.rules p there) w h in
-    let lt = get_within (rules_of p table) c way w in
-    (ap (λ (o : Option (List Row)). row_choice o k) own ∙ ap (option_map (λ (n : ℕ). n % 256)) place ∙ ap (λ (n : ℕ). Some n) (small_mod c (length (rules_of p table)) lt (sound.few p there)),
-    ap (λ (o : Option (List Row)). row_at o c) own ∙ of_row parts (part_at parts p).follows (rules_of p table) c way w)
+    let lt = get_within (rules_of p table) c way w in (
+      ap (λ (o : Option (List Row)). row_choice o k) own ∙ ap (option_map (λ (n : ℕ). n % 256)) place ∙ ap (λ (n : ℕ). Some n) (small_mod c (length (rules_of p table)) lt (sound.few p there)),
+      ap (λ (o : Option (List Row)). row_at o c) own ∙ of_row parts (part_at parts p).follows (rules_of p table) c way w,
+    )
 
 place_within : (rows : List Row) (k j : ℕ) → place_in rows k ≡ Some j → j < length rows
 unfolding place_in

@@ -131,8 +131,8 @@ ready table parts last sound (Many p) zero way rest l w m line =
 ready table parts last sound (Many p) (suc zero) way rest l w m line =
     let again : Goes table (Many p ∷ rest) (part_at parts p).bars = (m.goes.0, 0 ∷ m.goes.1, chosen (Many p) 0 [] refl m.goes.2, m.goes.3) in
     let follow : Leads table (Many p ∷ rest) (part_at parts p).follows = λ k ts cs d.
-        (let here : has (bit_or (part_at parts p).begins (part_at parts p).follows) k ≡ true = leads table parts sound.fit.right d (Many p ∷ []) rest k ts (part_at parts p).follows refl refl (λ cs' d'. m.leads k ts cs' d') in
-        elim (in_either (part_at parts p).begins (part_at parts p).follows k here) [ inl x ↦ within_has (part_at parts p).begins (part_at parts p).follows k m.again x | inr y ↦ y ]) in
+    (let here : has (bit_or (part_at parts p).begins (part_at parts p).follows) k ≡ true = leads table parts sound.fit.right d (Many p ∷ []) rest k ts (part_at parts p).follows refl refl (λ cs' d'. m.leads k ts cs' d') in
+    elim (in_either (part_at parts p).begins (part_at parts p).follows k here) [ inl x ↦ within_has (part_at parts p).begins (part_at parts p).follows k m.again x | inr y ↦ y ]) in
     subst (λ (x : List Symbol). IsReady table parts (x ++ rest)) (some_is (symbol.Part p ∷ Many p ∷ []) way w)
     (record { line = (record { leads = follow; goes = again }, (m, line)); goes = part_goes table parts sound.fit p (Many p ∷ rest) m.there again })
 ready table parts last sound (Many p) (suc (suc c)) way rest l w m line = absurd cc

@@ -76,10 +76,12 @@ pub split : (parts : List Part) (ss : List Symbol) (behind k : ℕ) → has (ahe
 split parts [] behind k h = inr (refl, h)
 split parts (s ∷ ss) behind k h =
     elim (split_of parts s (ahead parts ss behind) k h) [
-      inl a ↦ inl (grows_of parts s 0 (ahead parts ss 0) k (λ z. let f : has 0 k ≡ false = none k in absurd cc) a)
-    | inr b ↦ elim (split parts ss behind k b.1) [
-          inl c ↦ inl (comes_of parts s (ahead parts ss behind) (ahead parts ss 0) k b.0 h c)
-        | inr d ↦ inr (and_intro (is_empty parts s) (are_empty parts ss) b.0 d.0, d.1) ] ]
+      | inl a ↦ inl (grows_of parts s 0 (ahead parts ss 0) k (λ z. let f : has 0 k ≡ false = none k in absurd cc) a)
+      | inr b ↦ elim (split parts ss behind k b.1) [
+        | inl c ↦ inl (comes_of parts s (ahead parts ss behind) (ahead parts ss 0) k b.0 h c)
+        | inr d ↦ inr (and_intro (is_empty parts s) (are_empty parts ss) b.0 d.0, d.1)
+      ]
+    ]
 
 -- ---- what begins where a derivation begins
 
@@ -108,8 +110,9 @@ right_split parts part way behind k right h =
     let within : is_within (ahead parts way 0) part.begins ≡ true = and_first _ _ first in
     let empty : (not (are_empty parts way) || part.empty) ≡ true = and_second (is_within (ahead parts way 0) part.begins) _ first in
     elim (split parts way behind k h) [
-      inl a ↦ has-or_left part.begins (cond part.empty behind 0) k (within_has (ahead parts way 0) part.begins k within a)
-    | inr b ↦ has-or_right part.begins (cond part.empty behind 0) k (behind_too (are_empty parts way) part.empty behind k b.0 empty b.1) ]
+      | inl a ↦ has-or_left part.begins (cond part.empty behind 0) k (within_has (ahead parts way 0) part.begins k within a)
+      | inr b ↦ has-or_right part.begins (cond part.empty behind 0) k (behind_too (are_empty parts way) part.empty behind k b.0 empty b.1)
+    ]
   where
     behind_too : (a b : Bool) (behind k : ℕ) → a ≡ true → (not a || b) ≡ true → has behind k ≡ true → has (cond b behind 0) k ≡ true
     behind_too true true behind k e f h = h
@@ -135,8 +138,9 @@ way_ahead table parts right (Many p) zero way behind k w h =
 way_ahead table parts right (Many p) (suc zero) way behind k w h =
     let there : has (ahead parts (symbol.Part p ∷ Many p ∷ []) behind) k ≡ true = subst (λ (x : List Symbol). has (ahead parts x behind) k ≡ true) (sym (some_is (symbol.Part p ∷ Many p ∷ []) way w)) h in
     elim (in_either (part_at parts p).begins (cond (part_at parts p).empty (bit_or (part_at parts p).begins behind) 0) k there) [
-      inl a ↦ has-or_left (part_at parts p).begins behind k a
-    | inr b ↦ cond_out (part_at parts p).empty (bit_or (part_at parts p).begins behind) k b ]
+      | inl a ↦ has-or_left (part_at parts p).begins behind k a
+      | inr b ↦ cond_out (part_at parts p).empty (bit_or (part_at parts p).begins behind) k b
+    ]
 way_ahead table parts right (Many p) (suc (suc c)) way behind k w h = absurd cc
 
 -- where symbols derive tokens that begin with k, then k is ahead of the first of them
@@ -165,4 +169,3 @@ leads table parts right (chosen {symbols = symbols} s' c way w d) (s ∷ front) 
     let inner = leads table parts right d (way ++ front) rest k ts behind joined f h in
     let before : has (ahead parts way (ahead parts front behind)) k ≡ true = subst (λ (n : ℕ). has n k ≡ true) (ahead-append parts way front behind) inner in
     subst (λ (x : Symbol). has (ahead_of parts x (ahead parts front behind)) k ≡ true) first (way_ahead table parts right s' c way (ahead parts front behind) k w before)
-

@@ -10,3 +10,4 @@ pub mod Telling
 pub mod Sound
 pub mod Standing
 pub mod Reaching
+pub mod Deriving

@@ -34,7 +34,6 @@ leads_first table parts last k run ready bottom = record {
 
 -- one step more
 module _ (table : List Symbol) (parts : List Part) (last : ℕ) (known : is_predictive table parts last ≡ true) (all : List (List Row)) (is_all : all ≡ rows table parts) (k : ℕ) (first old new : Run) where
-
   step_tells : (by : Step) → LeadsTo table parts last k first (reverse old.due) old.count old.choices → StepsTo old new by (stepped all parts k old.count (reverse old.due))
       → Tells table parts last k old.count (reverse old.due) (stepped (rows table parts) parts k old.count (reverse old.due)) by
   step_tells by l s =

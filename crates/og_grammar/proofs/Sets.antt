@@ -73,8 +73,9 @@ xor_other a b p q = ap (λ (x : ℕ). (x + b) % 2) p ∙ ap (λ (y : ℕ). (1 + 
 
 pub has-without : (set k j : ℕ) → j ≢ k → has set j ≡ true → has (without set k) j ≡ true
 has-without set k j ne h = elim (has set k) as (λ b. has (cond b (bit_xor set (2 ^ k)) set) j ≡ true) [
-      true ↦ has_of (bit_xor set (2 ^ k)) j (bit_at_xor set (2 ^ k) j ∙ xor_other (bit_at set j) (bit_at (2 ^ k) j) (bit_of set j h) (bit_at-pow_other k j ne))
-    | false ↦ h ]
+  | true ↦ has_of (bit_xor set (2 ^ k)) j (bit_at_xor set (2 ^ k) j ∙ xor_other (bit_at set j) (bit_at (2 ^ k) j) (bit_of set j h) (bit_at-pow_other k j ne))
+  | false ↦ h
+]
 
 xor_none : (a b : ℕ) → a ≡ 0 → b ≡ 0 → (a + b) % 2 ≡ 0
 xor_none a b p q = ap (λ (x : ℕ). (x + b) % 2) p ∙ ap (λ (y : ℕ). (0 + y) % 2) q

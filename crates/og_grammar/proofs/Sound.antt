@@ -21,6 +21,7 @@ part_right table parts (suc n) p h lt = by (nat_eq p n) refl (λ below. part_rig
   where
     not_same : (a b : ℕ) → nat_eq a b ≡ false → a ≢ b
     not_same a b h = grind (arith, nat_tests)
+
     by : (b : Bool) → nat_eq p n ≡ b → (p < n → is_right_part parts (part_at parts p) (rules_of p table) ≡ true) → is_right_part parts (part_at parts p) (rules_of p table) ≡ true
     by true e go = subst (λ (q : ℕ). is_right_part parts (part_at parts q) (rules_of q table) ≡ true) (sym (is_same p n e)) (and_first _ (are_right_parts table parts n) h)
     by false e go = let ne = not_same p n e in go (omega arith)

@@ -145,9 +145,10 @@ in_line table parts fit (s ∷ ss) rest follows bars inner placed l g line =
     let clear : is_clear (bars_of parts s) (lead_of parts ss) bars ≡ true = and_second (may_follow parts s (ahead parts ss follows)) _ here in
     let some = all_go table parts fit ss rest follows bars inner_ss there g in
     let begins : Leads table (ss ++ rest) (ahead parts ss follows) = λ k ts cs d. leads table parts fit.right d ss rest k ts follows refl refl (λ cs' d'. l k ts cs' d') in
-    let known : is_known (length parts) s ≡ true = and_second (is_inner s) _ (and_first (is_inner s && is_known (length parts) s) (are_inner (length parts) ss) inner) in
-    (stand_by table parts s (ss ++ rest) (ahead parts ss follows) known follow begins (some.0, some.1, some.2, clear_avoids (bars_of parts s) (lead_of parts ss) bars some.0 g.0 clear some.3 g.3),
-    in_line table parts fit ss rest follows bars inner_ss there l g line)
+    let known : is_known (length parts) s ≡ true = and_second (is_inner s) _ (and_first (is_inner s && is_known (length parts) s) (are_inner (length parts) ss) inner) in (
+      stand_by table parts s (ss ++ rest) (ahead parts ss follows) known follow begins (some.0, some.1, some.2, clear_avoids (bars_of parts s) (lead_of parts ss) bars some.0 g.0 clear some.3 g.3),
+      in_line table parts fit ss rest follows bars inner_ss there l g line,
+    )
 
 pub avoids_none : (ts : List ℕ) → Avoids 0 ts
 avoids_none [] = tt

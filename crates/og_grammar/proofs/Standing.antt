@@ -254,17 +254,18 @@ pub answers_found : (table : List Symbol) (parts : List Part) (last limit : ℕ)
     → due ≡ [] → IsDerivation table last limit front choices × ((other : List ℕ) → Spells table last front other → other ≡ choices)
 answers_found table parts last limit front due count choices s e =
     let d = s.fore [] [] (subst (λ (z : List Due). Derives table (symbols_due z) [] []) (sym e) nothing) in
-    let n = s.nests [] [] (subst (λ (z : List Due). Nests table count z [] []) (sym e) ends) in
-    (record {
-      spells = subst (λ (z : List ℕ). Spells table last z choices) (append-nil front) (subst (λ (z : List ℕ). Spells table last (front ++ []) z) (append-nil choices) d);
-      counts = s.after;
-      nests = subst (λ (z : List ℕ). NestsAs table last choices z) (append-nil s.after) (subst (λ (z : List ℕ). NestsAs table last z (s.after ++ [])) (append-nil choices) n);
-      within = s.within;
-    },
-    λ other h.
-        (let x = s.back [] other (subst (λ (z : List ℕ). Spells table last z other) (sym (append-nil front)) h) in
-        let none_left : x.0 ≡ [] = no_choices (subst (λ (z : List Due). Derives table (symbols_due z) [] x.0) e x.2) in
-        x.1 ∙ ap (λ (z : List ℕ). choices ++ z) none_left ∙ append-nil choices))
+    let n = s.nests [] [] (subst (λ (z : List Due). Nests table count z [] []) (sym e) ends) in (
+      record {
+        spells = subst (λ (z : List ℕ). Spells table last z choices) (append-nil front) (subst (λ (z : List ℕ). Spells table last (front ++ []) z) (append-nil choices) d);
+        counts = s.after;
+        nests = subst (λ (z : List ℕ). NestsAs table last choices z) (append-nil s.after) (subst (λ (z : List ℕ). NestsAs table last z (s.after ++ [])) (append-nil choices) n);
+        within = s.within;
+      },
+      λ other h.
+          (let x = s.back [] other (subst (λ (z : List ℕ). Spells table last z other) (sym (append-nil front)) h) in
+          let none_left : x.0 ≡ [] = no_choices (subst (λ (z : List Due). Derives table (symbols_due z) [] x.0) e x.2) in
+          x.1 ∙ ap (λ (z : List ℕ). choices ++ z) none_left ∙ append-nil choices),
+    )
   where
     no_choices : {cs : List ℕ} → Derives table [] [] cs → cs ≡ []
     no_choices nothing = refl

@@ -46,19 +46,20 @@ passes_is (passes apart d) = (apart, d)
 passes_is (chosen _ c way w d) = absurd cc
 
 module _ (table : List Symbol) (parts : List Part) (last : ℕ) (sound : IsSound table parts last) (k count : ℕ) where
-
   restored : (before : ℕ) (due : List Due) → IsReady table parts (symbols_due due) → IsBottomed last (Restore before ∷ due)
       → Tells table parts last k count (Restore before ∷ due) (stepped (rows table parts) parts k count (Restore before ∷ due)) step.On
-  restored before due ready bottom =
-      (record {
-        fore = λ ts cs d. d;
-        back = λ ts cs d. (cs, refl, d);
-        nests = λ cs counts n. restores n;
-        line = ready.line;
-        goes = ready.goes;
-        bottom = under last (Restore before) due [] (λ e. cc) bottom;
-        low = λ limit le low. low;
-      }, omega arith)
+  restored before due ready bottom = (
+    record {
+      fore = λ ts cs d. d;
+      back = λ ts cs d. (cs, refl, d);
+      nests = λ cs counts n. restores n;
+      line = ready.line;
+      goes = ready.goes;
+      bottom = under last (Restore before) due [] (λ e. cc) bottom;
+      low = λ limit le low. low;
+    },
+    omega arith,
+  )
 
   plain_by : (t : ℕ) (due : List Due) (b : Bool) → nat_eq t k ≡ b
       → Tells table parts last k count (Expect (Token t) ∷ due) (record { step = cond b step.Plain step.Wrong; due = due; count = count; choices = [] }) (cond b step.Plain step.Wrong)
@@ -74,16 +75,18 @@ module _ (table : List Symbol) (parts : List Part) (last : ℕ) (sound : IsSound
       → Tells table parts last k count (Expect (NotBefore t) ∷ due) (record { step = cond b step.Wrong step.On; due = due; count = count; choices = [] }) (cond b step.Wrong step.On)
   barred_by t due ready bottom true e = λ ts cs d. (passes_is d).0 (sym (is_same t k e))
   barred_by t due ready bottom false e =
-      let behind = passes_is ready.goes.2 in
-      (record {
-        fore = λ ts cs d. passes (λ s. not_same t k e (sym s)) d;
-        back = λ ts cs d. (cs, refl, (passes_is d).1);
-        nests = λ cs counts n. skips n;
-        line = ready.line.1;
-        goes = (ready.goes.0, ready.goes.1, behind.1, avoids_none ready.goes.0);
-        bottom = under last (Expect (NotBefore t)) due [] (λ e. cc) bottom;
-        low = λ limit le low. (le, low);
-      }, omega arith)
+      let behind = passes_is ready.goes.2 in (
+        record {
+          fore = λ ts cs d. passes (λ s. not_same t k e (sym s)) d;
+          back = λ ts cs d. (cs, refl, (passes_is d).1);
+          nests = λ cs counts n. skips n;
+          line = ready.line.1;
+          goes = (ready.goes.0, ready.goes.1, behind.1, avoids_none ready.goes.0);
+          bottom = under last (Expect (NotBefore t)) due [] (λ e. cc) bottom;
+          low = λ limit le low. (le, low);
+        },
+        omega arith,
+      )
 
   choice_by : (s : Symbol) (due : List Due) → leaves_choice s ≡ true → MayStand table parts s (symbols_due due) → IsReady table parts (s ∷ symbols_due due) → IsBottomed last (Expect s ∷ due)
       → (o : Option ℕ) → choice_of (rows table parts) parts s k ≡ o
@@ -92,9 +95,10 @@ module _ (table : List Symbol) (parts : List Part) (last : ℕ) (sound : IsSound
       (let f = forced table parts last sound d s (symbols_due due) k ts refl refl l m in
       let clash = sym e ∙ f.made in
       cc)
-  choice_by s due l m ready bottom (Some c) e =
-      (entering table parts last sound s c k count due l e m ready.line.1 bottom,
-      lighter table parts last sound s c k count (way_of (rows table parts) s c) due l (taken_way table parts last sound s c k e) m)
+  choice_by s due l m ready bottom (Some c) e = (
+    entering table parts last sound s c k count due l e m ready.line.1 bottom,
+    lighter table parts last sound s c k count (way_of (rows table parts) s c) due l (taken_way table parts last sound s c k e) m,
+  )
 
   tells_symbol : (s : Symbol) (due : List Due) → IsReady table parts (s ∷ symbols_due due) → IsBottomed last (Expect s ∷ due)
       → Tells table parts last k count (Expect s ∷ due) (met (rows table parts) parts k count s due) (met (rows table parts) parts k count s due).step

@@ -54,7 +54,7 @@ pub data Derives (table : List Symbol) : List Symbol → List ℕ → List ℕ �
   raising : {k : ℕ} {symbols : List Symbol} {tokens choices : List ℕ} → Derives table symbols tokens choices → Derives table (Raising k ∷ symbols) (k ∷ tokens) choices
   passes : {k : ℕ} {symbols : List Symbol} {tokens choices : List ℕ} → IsNotFirst k tokens → Derives table symbols tokens choices → Derives table (NotBefore k ∷ symbols) tokens choices
   chosen : {symbols : List Symbol} {tokens choices : List ℕ} (symbol : Symbol) (choice : ℕ) (way : List Symbol) → slice_get (ways table symbol) choice ≡ Some way
-    → Derives table (way ++ symbols) tokens choices → Derives table (symbol ∷ symbols) tokens (choice ∷ choices)
+      → Derives table (way ++ symbols) tokens choices → Derives table (symbol ∷ symbols) tokens (choice ∷ choices)
 
 -- a sentence is what part 0 gives, and a token of the last kind
 abbrev pub whole : ℕ → List Symbol
@@ -92,7 +92,7 @@ pub data Nests (table : List Symbol) : ℕ → List Due → List ℕ → List �
   restores : {count before : ℕ} {due : List Due} {choices after : List ℕ} → Nests table before due choices after → Nests table count (Restore before ∷ due) choices after
   skips : {count k : ℕ} {due : List Due} {choices after : List ℕ} → Nests table count due choices after → Nests table count (Expect (NotBefore k) ∷ due) choices after
   takes : {count : ℕ} {due : List Due} {choices after : List ℕ} (symbol : Symbol) (choice : ℕ) (way : List Symbol) → slice_get (ways table symbol) choice ≡ Some way
-    → Nests table count (entered count symbol way due) choices after → Nests table count (Expect symbol ∷ due) (choice ∷ choices) after
+      → Nests table count (entered count symbol way due) choices after → Nests table count (Expect symbol ∷ due) (choice ∷ choices) after
 
 -- after each of its tokens a sentence of these choices nests as deep as these counts say
 abbrev pub NestsAs : List Symbol → ℕ → List ℕ → List ℕ → Type 0

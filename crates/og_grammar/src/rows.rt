@@ -126,7 +126,11 @@ fn ahead_of(parts: &[Part], symbol: Symbol, behind: u128) -> u128
         Symbol::Token(kind) | Symbol::Raising(kind) => 1 << kind,
         Symbol::Part(part) | Symbol::Scope(part) => {
             let part = part_at(parts, part);
-            if part.empty { part.begins | behind } else { part.begins | 0 }
+            if part.empty {
+                part.begins | behind
+            } else {
+                part.begins | 0
+            }
         }
         Symbol::Maybe(part) | Symbol::Many(part) => part_at(parts, part).begins | behind,
         Symbol::NotBefore(kind) => without(behind, kind),
@@ -155,5 +159,9 @@ fn without(set: u128, kind: u8) -> u128
     requires { kind < 128 }
     ensures { result ≡ without set kind }
 {
-    if has(set, kind) { set ^ (1 << kind) } else { set }
+    if has(set, kind) {
+        set ^ (1 << kind)
+    } else {
+        set
+    }
 }

@@ -82,9 +82,21 @@ fn meet(
 {
     match symbol {
         Symbol::Rule(_) => Ok(Step::Wrong),
-        Symbol::Token(due) => Ok(if due == kind { Step::Plain } else { Step::Wrong }),
-        Symbol::Raising(due) => Ok(if due == kind { Step::Deeper } else { Step::Wrong }),
-        Symbol::NotBefore(barred) => Ok(if barred == kind { Step::Wrong } else { Step::On }),
+        Symbol::Token(due) => Ok(if due == kind {
+            Step::Plain
+        } else {
+            Step::Wrong
+        }),
+        Symbol::Raising(due) => Ok(if due == kind {
+            Step::Deeper
+        } else {
+            Step::Wrong
+        }),
+        Symbol::NotBefore(barred) => Ok(if barred == kind {
+            Step::Wrong
+        } else {
+            Step::On
+        }),
         Symbol::Part(_) | Symbol::Scope(_) | Symbol::Maybe(_) | Symbol::Many(_) => {
             match choice(rows, parts, symbol, kind) {
                 None => Ok(Step::Wrong),
@@ -104,7 +116,11 @@ fn choice(rows: &[Items<Row>], parts: &[Part], symbol: Symbol, kind: u8) -> Opti
     match symbol {
         Symbol::Part(part) | Symbol::Scope(part) => row_choice(rows, part, kind),
         Symbol::Maybe(part) | Symbol::Many(part) => {
-            Some(if has(part_at(parts, part).begins, kind) { 1 } else { 0 })
+            Some(if has(part_at(parts, part).begins, kind) {
+                1
+            } else {
+                0
+            })
         }
         _ => None,
     }
@@ -132,12 +148,7 @@ fn place_of(rows: &[Row], kind: u8) -> Option<usize>
 }
 
 /// The choice is made: what it puts in the place of the symbol is due.
-fn enter(
-    rows: &[Items<Row>],
-    symbol: Symbol,
-    choice: u8,
-    run: &mut Run,
-) -> Result<(), AllocError>
+fn enter(rows: &[Items<Row>], symbol: Symbol, choice: u8, run: &mut Run) -> Result<(), AllocError>
     ensures due { OnOk result (reverse run.new.due ≡ entered run.old.count symbol (way_of rows.now symbol choice) (reverse run.old.due)) }
     ensures count { OnOk result (run.new.count ≡ run.old.count) }
     ensures choices { OnOk result (run.new.choices ≡ run.old.choices ++ choice ∷ []) }
