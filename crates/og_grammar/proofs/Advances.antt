@@ -1,28 +1,16 @@
 -- What a step before a token keeps: before that token, the derivations are the same.
-use Rattle.std.proofs.Common.{◌≡◌, ◌≢◌, ℕ, zero, suc, ◌+◌, ◌<◌, ◌≤◌, ◌^◌, Bool, true, false, cond, not, ◌&&◌, ◌||◌, List, [], ◌∷◌, ◌++◌, length, Option, Some, None, slice_get, ◌⊎◌, inl, inr, nat_eq, nat_lt, refl, sym, ap, subst, ◌∙◌, append_assoc, arith}
-use Rattle.std.specs.Prelude.{if◌then◌else◌, ◌==◌}
-use Rattle.std.proofs.lemmas.Bool.Decides.{nat_tests}
+use Rattle.std.proofs.Common.{◌≡◌, ℕ, suc, ◌+◌, ◌≤◌, Bool, true, false, cond, List, [], ◌∷◌, ◌++◌, inl, inr, refl, sym, ap, subst, ◌∙◌, append_assoc}
 use Rattle.og_grammar.specs.declared.Symbol.{Symbol}
-use Rattle.og_grammar.specs.declared.Symbol.TheVariants.{Rule, Token, Raising, Scope, Maybe, Many, NotBefore}
-use Rattle.og_grammar.specs.declared.Symbol.TheVariants as symbol
+use Rattle.og_grammar.specs.declared.Symbol.TheVariants.{Token}
 use Rattle.og_grammar.specs.declared.Due.{Due}
 use Rattle.og_grammar.specs.declared.Due.TheVariants.{Expect, Restore}
 use Rattle.og_grammar.specs.declared.Part.{Part}
-use Rattle.og_grammar.specs.declared.rows.Row.{Row}
-use Rattle.og_grammar.specs.declared.run.Step.{Step}
-use Rattle.og_grammar.specs.declared.run.Step.TheVariants as step
-use Rattle.og_grammar.specs.Sentence.{rules_of, ways, IsNotFirst, is_scope, expected, entered, Derives, Nests}
-use Rattle.og_grammar.specs.Sentence as sentence
-use Rattle.og_grammar.specs.Predictive.{has, part_at, is_empty, are_empty, weight_of, weights}
-use Rattle.og_grammar.specs.Rows.{choice_of, way_of}
-use Rattle.og_grammar.specs.Steps.{Stepped, by_choice, met, stepped}
+use Rattle.og_grammar.specs.Sentence.{is_scope, expected, entered, Derives, Nests}
+use Rattle.og_grammar.specs.Predictive.{is_empty, weight_of}
 pub use Rattle.og_grammar.specs.Standing.{symbols_due, IsBottomed, AreLow, Advances}
-use Rattle.og_grammar.proofs.Known.{and_first, and_second}
-use Rattle.og_grammar.proofs.Sets.{is_same, not_same}
-use Rattle.og_grammar.proofs.Leading.{some_is, head_is, tail_is}
-use Rattle.og_grammar.proofs.Least.{Goes, Avoids}
-use Rattle.og_grammar.proofs.Stack.{Leads, Lacks, MayStand, AreInLine, avoids_none}
-use Rattle.og_grammar.proofs.Choices.{IsSound, IsForced, rows, leaves_choice, taken_way, forced}
+use Rattle.og_grammar.proofs.Leading.{head_is, tail_is}
+use Rattle.og_grammar.proofs.Least.{Goes}
+use Rattle.og_grammar.proofs.Stack.{AreInLine}
 
 -- the weight of what may be taken up before the next token is
 abbrev pub weight_due : List Part → List Due → ℕ

@@ -1,6 +1,6 @@
 -- Before a token the choice is forced: the kind of the token makes it.
-use Rattle.std.proofs.Common.{◌≡◌, ◌≢◌, ℕ, zero, suc, ◌+◌, ◌%◌, ◌<◌, ◌≤◌, ◌^◌, Bool, true, false, cond, not, ◌&&◌, ◌||◌, List, [], ◌∷◌, ◌++◌, length, Option, Some, None, slice_get, ◌⊎◌, inl, inr, nat_eq, nat_lt, refl, sym, ap, subst, ◌∙◌, append_assoc, arith, map}
-use Rattle.std.specs.Prelude.{bit_or, option_map, position, if◌then◌else◌, ◌==◌}
+use Rattle.std.proofs.Common.{◌≡◌, ℕ, zero, suc, ◌+◌, ◌%◌, ◌<◌, ◌≤◌, ◌^◌, Bool, true, false, cond, not, ◌&&◌, List, [], ◌∷◌, ◌++◌, length, Option, Some, None, slice_get, inl, inr, nat_lt, refl, sym, ap, subst, ◌∙◌, arith, map}
+use Rattle.std.specs.Prelude.{bit_or, option_map, ◌==◌}
 use Rattle.std.specs.List.{prefix_len}
 use Rattle.std.proofs.lemmas.Bool.Decides.{nat_tests}
 use Rattle.std.proofs.lemmas.Option.{slice_get-map, slice_get_past}
@@ -11,13 +11,13 @@ use Rattle.og_grammar.specs.declared.Symbol.TheVariants.{Rule, Token, Raising, S
 use Rattle.og_grammar.specs.declared.Symbol.TheVariants as symbol
 use Rattle.og_grammar.specs.declared.Part.{Part}
 use Rattle.og_grammar.specs.declared.rows.Row.{Row}
-use Rattle.og_grammar.specs.Sentence.{rules_of, ways, IsNotFirst, Derives, nothing, token, raising, passes, chosen}
+use Rattle.og_grammar.specs.Sentence.{rules_of, ways, Derives, nothing, token, raising, passes, chosen}
 use Rattle.og_grammar.specs.Predictive.{has, part_at, ahead, are_apart, are_right_rules, is_right_rule}
 use Rattle.og_grammar.specs.Rows.{row_of, rows_of, rows_below, place_in, row_choice, choice_of, symbols_of, row_at, way_of}
 use Rattle.og_grammar.proofs.Known.{and_first, and_second}
 use Rattle.og_grammar.proofs.Sets.{has-or_left, has-or_right, in_either, has-pow, none, apart_has}
-use Rattle.og_grammar.proofs.Leading.{AreRight, option, some_is, head_is, tail_is, leads, cond_out}
-use Rattle.og_grammar.proofs.Stack.{IsFit, are_inner, Leads, Lacks, IsBefore, IsOptionBefore, IsRepeatBefore, MayStand}
+use Rattle.og_grammar.proofs.Leading.{AreRight, option, some_is, head_is, tail_is, leads}
+use Rattle.og_grammar.proofs.Stack.{IsFit, are_inner, Lacks, MayStand}
 
 passing : List Part → ℕ → ℕ → List (List Symbol) → ℕ
 passing parts follows k rules = prefix_len (λ row. not (has row.ahead k)) (map (row_of parts follows) rules)

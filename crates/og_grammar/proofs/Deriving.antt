@@ -1,19 +1,18 @@
 -- What a reader has said at a token, as an answer about the whole list.
-use Rattle.std.proofs.Common.{◌≡◌, ◌≢◌, ℕ, zero, suc, ◌+◌, ◌<◌, ◌≤◌, Bool, true, false, List, [], ◌∷◌, ◌++◌, length, reverse, get_or, take, drop, inl, inr, Result, Ok, Err, refl, sym, ap, subst, ◌∙◌, arith}
+use Rattle.std.proofs.Common.{◌≡◌, ℕ, zero, suc, ◌+◌, ◌<◌, ◌≤◌, List, [], ◌∷◌, ◌++◌, length, reverse, get_or, take, drop, Result, Err, refl, sym, ap, subst, ◌∙◌, arith}
 use Rattle.std.proofs.lemmas.List.{reverse-reverse}
 use Rattle.og_grammar.specs.declared.reader.Refusal.{Refusal}
 use Rattle.og_grammar.specs.declared.reader.Refusal.TheVariants.{Wrong, TooDeep}
 use Rattle.og_grammar.specs.declared.Symbol.{Symbol}
 use Rattle.og_grammar.specs.declared.Symbol.TheVariants.{Token, Raising}
-use Rattle.og_grammar.specs.declared.Due.{Due}
-use Rattle.og_grammar.specs.declared.Due.TheVariants.{Expect, Restore}
+use Rattle.og_grammar.specs.declared.Due.TheVariants.{Expect}
 use Rattle.og_grammar.specs.declared.Part.{Part}
 use Rattle.og_grammar.specs.declared.run.Run.{Run}
 use Rattle.og_grammar.specs.declared.run.Step.{Step}
 use Rattle.og_grammar.specs.declared.run.Step.TheVariants as step
-use Rattle.og_grammar.specs.Sentence.{Derives, Spells}
+use Rattle.og_grammar.specs.Sentence.{Spells}
 use Rattle.og_grammar.specs.Answers.{IsDerivation, IsFirstWrong, IsFirstTooDeep, IsCutOff}
-use Rattle.og_grammar.specs.Standing.{LeadsTo, Reaches, Stands, symbols_due}
+use Rattle.og_grammar.specs.Standing.{LeadsTo, Reaches, Stands}
 use Rattle.og_grammar.proofs.Standing.{stands_plain, stands_deeper, answers_wrong, answers_deep, answers_cut, answers_found}
 
 parts_at : (kinds : List ℕ) (at : ℕ) → at < length kinds → take at kinds ++ get_or kinds at 0 ∷ drop (suc at) kinds ≡ kinds

@@ -1,23 +1,22 @@
 -- The step that takes up a symbol that leaves a choice.
-use Rattle.std.proofs.Common.{◌≡◌, ◌≢◌, ℕ, zero, suc, ◌+◌, ◌<◌, ◌≤◌, ◌^◌, Bool, true, false, cond, not, ◌&&◌, ◌||◌, List, [], ◌∷◌, ◌++◌, length, Option, Some, None, slice_get, ◌⊎◌, inl, inr, nat_eq, nat_lt, refl, sym, ap, subst, ◌∙◌, append_assoc, arith}
-use Rattle.std.specs.Prelude.{if◌then◌else◌, ◌==◌, bit_or}
-use Rattle.std.proofs.lemmas.Bool.Decides.{nat_tests}
+use Rattle.std.proofs.Common.{◌≡◌, ℕ, zero, suc, ◌+◌, ◌<◌, Bool, true, false, cond, not, ◌&&◌, ◌||◌, List, [], ◌∷◌, ◌++◌, length, Some, slice_get, inl, inr, refl, sym, ap, subst, ◌∙◌, arith}
+use Rattle.std.specs.Prelude.{bit_or}
 use Rattle.og_grammar.specs.declared.Symbol.{Symbol}
 use Rattle.og_grammar.specs.declared.Symbol.TheVariants.{Rule, Token, Raising, Scope, Maybe, Many, NotBefore}
 use Rattle.og_grammar.specs.declared.Symbol.TheVariants as symbol
 use Rattle.og_grammar.specs.declared.Due.{Due}
 use Rattle.og_grammar.specs.declared.Due.TheVariants.{Expect, Restore}
 use Rattle.og_grammar.specs.declared.Part.{Part}
-use Rattle.og_grammar.specs.Sentence.{rules_of, ways, is_scope, expected, entered, Derives, chosen, Nests, takes}
+use Rattle.og_grammar.specs.Sentence.{rules_of, ways, expected, entered, Derives, chosen, takes}
 use Rattle.og_grammar.specs.Predictive.{has, is_within, part_at, is_empty, are_empty, weight_of, weights, ahead, is_right_rule, are_placed}
 use Rattle.og_grammar.specs.Rows.{choice_of, way_of}
 pub use Rattle.og_grammar.specs.Standing.{IsReady}
 use Rattle.og_grammar.proofs.Known.{and_first, and_second}
-use Rattle.og_grammar.proofs.Sets.{in_either, has-pow, within_has}
-use Rattle.og_grammar.proofs.Leading.{some_is, head_is, tail_is, leads}
-use Rattle.og_grammar.proofs.Least.{Goes, Avoids, part_gives, rule_placed, lt_of}
-use Rattle.og_grammar.proofs.Stack.{IsFit, IsBefore, IsOptionBefore, IsRepeatBefore, Leads, Lacks, MayStand, AreInLine, avoids_none, in_line, all_go}
-use Rattle.og_grammar.proofs.Choices.{IsSound, IsForced, rows, leaves_choice, taken_way, forced}
+use Rattle.og_grammar.proofs.Sets.{in_either, within_has}
+use Rattle.og_grammar.proofs.Leading.{some_is, leads}
+use Rattle.og_grammar.proofs.Least.{Goes, part_gives, rule_placed, lt_of}
+use Rattle.og_grammar.proofs.Stack.{IsFit, IsBefore, Leads, MayStand, AreInLine, avoids_none, in_line, all_go}
+use Rattle.og_grammar.proofs.Choices.{IsSound, rows, leaves_choice, taken_way, forced}
 use Rattle.og_grammar.proofs.Advances.{symbols_due, IsBottomed, weight_due, Advances, due_entered, bottom_entered, low_entered}
 
 -- what may be taken up in a way and behind it

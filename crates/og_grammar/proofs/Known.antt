@@ -1,5 +1,5 @@
 -- Kinds below 128 and parts that are there.
-use Rattle.std.proofs.Common.{◌≡◌, ℕ, ◌≤◌, Bool, true, false, ◌&&◌, List, [], ◌∷◌, Option, Some, None, slice_get, zero, suc, refl, IsTrue}
+use Rattle.std.proofs.Common.{◌≡◌, ℕ, Bool, true, false, ◌&&◌, List, [], ◌∷◌, refl, IsTrue}
 use Rattle.og_grammar.specs.declared.Symbol.{Symbol}
 use Rattle.og_grammar.specs.declared.Symbol.TheVariants.{Rule, Token, Raising, Part, Scope, Maybe, Many, NotBefore}
 use Rattle.og_grammar.specs.Sentence.{body_of}

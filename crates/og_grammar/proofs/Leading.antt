@@ -1,12 +1,12 @@
 -- What begins where a derivation begins: the kinds ahead of a list of symbols.
-use Rattle.std.proofs.Common.{◌≡◌, ◌≢◌, ℕ, zero, suc, ◌^◌, Bool, true, false, cond, not, ◌&&◌, ◌||◌, List, [], ◌∷◌, ◌++◌, Option, Some, None, slice_get, ◌⊎◌, inl, inr, nat_eq, refl, sym, ap, subst, ◌∙◌, append_assoc}
+use Rattle.std.proofs.Common.{◌≡◌, ◌≢◌, ℕ, zero, suc, ◌^◌, Bool, true, false, cond, not, ◌&&◌, ◌||◌, List, [], ◌∷◌, ◌++◌, Option, Some, slice_get, ◌⊎◌, inl, inr, nat_eq, refl, sym, ap, subst, ◌∙◌, append_assoc}
 use Rattle.std.specs.Prelude.{bit_or}
 use Rattle.og_grammar.specs.declared.Symbol.{Symbol}
 use Rattle.og_grammar.specs.declared.Symbol.TheVariants.{Rule, Token, Raising, Scope, Maybe, Many, NotBefore}
 use Rattle.og_grammar.specs.declared.Symbol.TheVariants as symbol
 use Rattle.og_grammar.specs.declared.Part.{Part}
 use Rattle.og_grammar.specs.Sentence.{rules_of, ways, IsNotFirst, Derives, nothing, token, raising, passes, chosen}
-use Rattle.og_grammar.specs.Predictive.{has, without, is_within, part_at, is_empty, are_empty, ahead_of, ahead, is_right_rule, are_placed, weights}
+use Rattle.og_grammar.specs.Predictive.{has, without, is_within, part_at, is_empty, are_empty, ahead_of, ahead, is_right_rule}
 use Rattle.og_grammar.proofs.Known.{and_intro, and_first, and_second}
 use Rattle.og_grammar.proofs.Sets.{is_same, not_same, never_in, has-or_left, has-or_right, in_either, none, within_has, has-pow, has-without, without_has}
 

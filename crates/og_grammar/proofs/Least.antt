@@ -1,16 +1,16 @@
 -- Every list of symbols of a table that passes its test derives something: the least text of each part.
-use Rattle.std.proofs.Common.{◌≡◌, ◌≢◌, ℕ, zero, suc, ◌+◌, ◌<◌, ◌≤◌, ◌^◌, max, Bool, true, false, cond, not, ◌&&◌, ◌||◌, List, [], ◌∷◌, ◌++◌, length, Option, Some, None, slice_get, ◌⊎◌, inl, inr, nat_eq, nat_lt, refl, sym, ap, subst, ◌∙◌, append_assoc, arith}
+use Rattle.std.proofs.Common.{◌≡◌, ◌≢◌, ℕ, zero, suc, ◌<◌, ◌^◌, Bool, true, false, cond, not, ◌&&◌, ◌||◌, List, [], ◌∷◌, ◌++◌, length, Some, slice_get, ◌⊎◌, inl, inr, nat_eq, nat_lt, refl, sym, ap, subst, ◌∙◌, arith}
 use Rattle.std.proofs.lemmas.Bool.Decides.{nat_tests}
 use Rattle.og_grammar.specs.declared.Symbol.{Symbol}
 use Rattle.og_grammar.specs.declared.Symbol.TheVariants.{Rule, Token, Raising, Scope, Maybe, Many, NotBefore}
 use Rattle.og_grammar.specs.declared.Symbol.TheVariants as symbol
 use Rattle.og_grammar.specs.declared.Part.{Part}
-use Rattle.og_grammar.specs.Sentence.{rules_of, ways, IsNotFirst, Derives, nothing, token, raising, passes, chosen}
+use Rattle.og_grammar.specs.Sentence.{rules_of, IsNotFirst, Derives, token, raising, passes, chosen}
 use Rattle.og_grammar.specs.Predictive.{has, is_within, are_apart, part_at, bars_of, lead_of, is_clear, are_placed, may_follow, ahead, is_ranked, are_ranked, is_right_rule, are_empty}
 pub use Rattle.og_grammar.specs.Standing.{Avoids, Goes}
 use Rattle.og_grammar.proofs.Known.{and_first, and_second}
 use Rattle.og_grammar.proofs.Sets.{is_same, not_same, none, has-pow, within_has, apart_has}
-use Rattle.og_grammar.proofs.Leading.{AreRight, some_is}
+use Rattle.og_grammar.proofs.Leading.{AreRight}
 
 -- the tokens are those behind, or they begin with the one kind of the set
 abbrev pub Begun : ℕ → List ℕ → List ℕ → Type 0

@@ -1,23 +1,22 @@
 -- A reader that goes on to the next token.
-use Rattle.std.proofs.Common.{◌≡◌, ◌≢◌, ℕ, zero, suc, ◌+◌, ◌<◌, ◌≤◌, Bool, true, false, List, [], ◌∷◌, ◌++◌, length, reverse, inl, inr, refl, sym, ap, subst, ◌∙◌, append_assoc, arith}
+use Rattle.std.proofs.Common.{◌≡◌, ℕ, ◌<◌, true, List, [], ◌∷◌, ◌++◌, reverse, inr, refl, sym, ap, subst, ◌∙◌, append_assoc, arith}
 use Rattle.std.proofs.lemmas.List.{append-nil}
 use Rattle.og_grammar.specs.declared.Symbol.{Symbol}
 use Rattle.og_grammar.specs.declared.Symbol.TheVariants.{Token, Raising}
 use Rattle.og_grammar.specs.declared.Symbol.TheVariants as symbol
 use Rattle.og_grammar.specs.declared.Due.{Due}
-use Rattle.og_grammar.specs.declared.Due.TheVariants.{Expect, Restore}
+use Rattle.og_grammar.specs.declared.Due.TheVariants.{Expect}
 use Rattle.og_grammar.specs.declared.Part.{Part}
 use Rattle.og_grammar.specs.declared.rows.Row.{Row}
 use Rattle.og_grammar.specs.declared.run.Run.{Run}
 use Rattle.og_grammar.specs.declared.run.Step.{Step}
 use Rattle.og_grammar.specs.declared.run.Step.TheVariants as step
-use Rattle.og_grammar.specs.Sentence.{Derives, nothing, token, whole, expected}
+use Rattle.og_grammar.specs.Sentence.{nothing, token, whole, expected}
 use Rattle.og_grammar.specs.Predictive.{has, part_at, is_predictive}
-use Rattle.og_grammar.specs.Rows.{rows_below}
 use Rattle.og_grammar.specs.Steps.{StepsTo, Stepped, stepped}
 pub use Rattle.og_grammar.specs.Standing.{LeadsTo, Reaches, IsFirst}
 use Rattle.og_grammar.proofs.Least.{Goes}
-use Rattle.og_grammar.proofs.Choices.{IsSound, rows}
+use Rattle.og_grammar.proofs.Choices.{rows}
 use Rattle.og_grammar.proofs.Advances.{symbols_due, IsBottomed, weight_due, Advances, stays, goes_on}
 use Rattle.og_grammar.proofs.Entering.{IsReady, part_goes}
 use Rattle.og_grammar.proofs.Telling.{Tells, tells, token_is}

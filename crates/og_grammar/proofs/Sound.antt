@@ -1,6 +1,6 @@
 -- What the test of a table says of it.
-use Rattle.std.proofs.Common.{◌≡◌, ◌≢◌, ℕ, zero, suc, ◌+◌, ◌<◌, ◌≤◌, Bool, true, false, cond, not, ◌&&◌, List, [], ◌∷◌, ◌++◌, length, Option, Some, None, slice_get, nat_eq, nat_lt, nat_le, refl, sym, ap, subst, ◌∙◌, arith}
-use Rattle.std.specs.Prelude.{if◌then◌else◌, ◌==◌, bit_or}
+use Rattle.std.proofs.Common.{◌≡◌, ◌≢◌, ℕ, zero, suc, ◌<◌, ◌≤◌, Bool, true, false, cond, not, ◌&&◌, List, [], ◌∷◌, length, Option, Some, None, slice_get, nat_eq, nat_lt, nat_le, refl, sym, subst, arith}
+use Rattle.std.specs.Prelude.{bit_or}
 use Rattle.std.proofs.lemmas.Bool.Decides.{nat_tests}
 use Rattle.og_grammar.specs.declared.Symbol.{Symbol}
 use Rattle.og_grammar.specs.declared.Symbol.TheVariants.{Rule, Token, Raising, Scope, Maybe, Many, NotBefore}
@@ -8,11 +8,11 @@ use Rattle.og_grammar.specs.declared.Symbol.TheVariants as symbol
 use Rattle.og_grammar.specs.declared.Part.{Part}
 use Rattle.og_grammar.specs.Sentence.{body_of, rules_of}
 use Rattle.og_grammar.specs.Predictive.{has, part_at, lead_of, are_ranked, ahead, are_apart, is_right_rule, are_right_rules, is_least, is_right_part, are_right_parts, is_known, are_known, is_predictive}
-use Rattle.og_grammar.proofs.Known.{and_first, and_second, and_intro, body_known, tail_known}
+use Rattle.og_grammar.proofs.Known.{and_first, and_second, and_intro}
 use Rattle.og_grammar.proofs.Sets.{is_same}
 use Rattle.og_grammar.proofs.Leading.{some_is}
 use Rattle.og_grammar.proofs.Least.{HasLeast, lt_of}
-use Rattle.og_grammar.proofs.Stack.{IsFit, is_inner, are_inner, not_is}
+use Rattle.og_grammar.proofs.Stack.{are_inner, not_is}
 use Rattle.og_grammar.proofs.Choices.{IsSound}
 
 part_right : (table : List Symbol) (parts : List Part) (n p : ℕ) → are_right_parts table parts n ≡ true → p < n → is_right_part parts (part_at parts p) (rules_of p table) ≡ true

@@ -1,18 +1,17 @@
 -- What a reader of a table expects, symbol by symbol: each may stand before those behind it, and all of them derive something.
-use Rattle.std.proofs.Common.{◌≡◌, ◌≢◌, ℕ, zero, suc, ◌+◌, ◌<◌, ◌≤◌, ◌^◌, max, Bool, true, false, cond, not, ◌&&◌, ◌||◌, List, [], ◌∷◌, ◌++◌, length, Option, Some, None, slice_get, ◌⊎◌, inl, inr, nat_eq, nat_lt, refl, sym, ap, subst, ◌∙◌, append_assoc, arith}
-use Rattle.std.specs.Prelude.{bit_or}
+use Rattle.std.proofs.Common.{◌≡◌, ℕ, suc, ◌+◌, ◌≤◌, Bool, true, false, not, ◌&&◌, List, [], ◌∷◌, ◌++◌, length, nat_lt, refl, arith}
 use Rattle.std.proofs.lemmas.Bool.Decides.{nat_tests}
 use Rattle.og_grammar.specs.declared.Symbol.{Symbol}
 use Rattle.og_grammar.specs.declared.Symbol.TheVariants.{Rule, Token, Raising, Scope, Maybe, Many, NotBefore}
 use Rattle.og_grammar.specs.declared.Symbol.TheVariants as symbol
 use Rattle.og_grammar.specs.declared.Part.{Part}
-use Rattle.og_grammar.specs.Sentence.{rules_of, ways, IsNotFirst, Derives, nothing, token, raising, passes, chosen}
-use Rattle.og_grammar.specs.Predictive.{has, is_within, are_apart, part_at, bars_of, lead_of, is_clear, are_placed, may_follow, ahead, is_ranked, are_ranked, is_right_rule, is_known, are_known}
+use Rattle.og_grammar.specs.Sentence.{Derives}
+use Rattle.og_grammar.specs.Predictive.{has, is_within, are_apart, part_at, bars_of, lead_of, is_clear, are_placed, may_follow, ahead, is_ranked, are_ranked, is_known}
 pub use Rattle.og_grammar.specs.Standing.{Leads, Lacks, IsBefore, IsOptionBefore, IsRepeatBefore, MayStand, AreInLine}
 use Rattle.og_grammar.proofs.Known.{and_first, and_second, and_intro}
 use Rattle.og_grammar.proofs.Sets.{none, within_has, apart_has}
-use Rattle.og_grammar.proofs.Leading.{AreRight, some_is, leads, cond_out}
-use Rattle.og_grammar.proofs.Least.{Avoids, Begun, Goes, AllHaveLeast, Below, list_gives, part_gives, rule_placed, clear_avoids, lt_of}
+use Rattle.og_grammar.proofs.Leading.{AreRight, leads}
+use Rattle.og_grammar.proofs.Least.{Avoids, Begun, Goes, AllHaveLeast, list_gives, part_gives, clear_avoids, lt_of}
 
 -- ---- ranks above those of all symbols
 

@@ -1,22 +1,18 @@
 -- Where a reader stands behind some tokens: what it has taken begins sentences, and all derivations of these go on from here.
-use Rattle.std.proofs.Common.{◌≡◌, ◌≢◌, ℕ, zero, suc, ◌+◌, ◌<◌, ◌≤◌, Bool, true, false, cond, List, [], ◌∷◌, ◌++◌, length, Option, Some, None, slice_get, ◌⊎◌, inl, inr, refl, sym, ap, subst, ◌∙◌, append_assoc, length-append, arith}
+use Rattle.std.proofs.Common.{◌≡◌, ℕ, suc, ◌<◌, ◌≤◌, List, [], ◌∷◌, ◌++◌, length, Some, slice_get, inl, inr, refl, sym, ap, subst, ◌∙◌, append_assoc, length-append, arith}
 use Rattle.std.proofs.lemmas.List.{append-nil}
-use Rattle.std.specs.List.{AllByRecursion}
 use Rattle.og_grammar.specs.declared.Symbol.{Symbol}
-use Rattle.og_grammar.specs.declared.Symbol.TheVariants.{Rule, Token, Raising, Scope, Maybe, Many, NotBefore}
-use Rattle.og_grammar.specs.declared.Symbol.TheVariants as symbol
+use Rattle.og_grammar.specs.declared.Symbol.TheVariants.{Token, Raising, NotBefore}
 use Rattle.og_grammar.specs.declared.Due.{Due}
 use Rattle.og_grammar.specs.declared.Due.TheVariants.{Expect, Restore}
 use Rattle.og_grammar.specs.declared.Part.{Part}
-use Rattle.og_grammar.specs.Sentence.{ways, Derives, nothing, token, raising, passes, chosen, whole, Spells, is_scope, expected, entered, Nests, ends, keeps, rises, restores, skips, takes, NestsAs}
-use Rattle.og_grammar.specs.Answers.{AreWithin, IsDerivation, BeginSome, IsFirstWrong, PassAt, IsFirstTooDeep, IsCutOff}
+use Rattle.og_grammar.specs.Sentence.{ways, Derives, nothing, token, raising, passes, chosen, Spells, entered, Nests, ends, keeps, rises, restores, skips, takes, NestsAs}
+use Rattle.og_grammar.specs.Answers.{AreWithin, IsDerivation, BeginSome, IsFirstWrong, IsFirstTooDeep, IsCutOff}
 pub use Rattle.og_grammar.specs.Standing.{Stands}
 use Rattle.og_grammar.proofs.Leading.{some_is, head_is, tail_is}
 use Rattle.og_grammar.proofs.Least.{Goes}
-use Rattle.og_grammar.proofs.Stack.{AreInLine, avoids_none}
-use Rattle.og_grammar.proofs.Choices.{IsSound}
-use Rattle.og_grammar.proofs.Advances.{symbols_due, due_expected, due_entered, IsBottomed, AreLow, Advances}
-use Rattle.og_grammar.proofs.Entering.{IsReady}
+use Rattle.og_grammar.proofs.Stack.{avoids_none}
+use Rattle.og_grammar.proofs.Advances.{symbols_due, due_entered, IsBottomed, Advances}
 use Rattle.og_grammar.proofs.Telling.{token_is, raising_is}
 
 -- ---- every derivation nests in one way

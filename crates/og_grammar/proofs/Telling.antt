@@ -1,6 +1,5 @@
 -- What each step of a reader says of the derivations.
-use Rattle.std.proofs.Common.{◌≡◌, ◌≢◌, ℕ, zero, suc, ◌+◌, ◌<◌, ◌≤◌, ◌^◌, Bool, true, false, cond, not, ◌&&◌, List, [], ◌∷◌, ◌++◌, length, Option, Some, None, slice_get, ◌⊎◌, inl, inr, nat_eq, nat_lt, refl, sym, ap, subst, ◌∙◌, append_assoc, arith}
-use Rattle.std.specs.Prelude.{if◌then◌else◌, ◌==◌}
+use Rattle.std.proofs.Common.{◌≡◌, ℕ, ◌<◌, Bool, true, false, cond, List, [], ◌∷◌, Option, Some, None, nat_eq, refl, sym, ap, ◌∙◌, arith}
 use Rattle.og_grammar.specs.declared.Symbol.{Symbol}
 use Rattle.og_grammar.specs.declared.Symbol.TheVariants.{Rule, Token, Raising, Scope, Maybe, Many, NotBefore}
 use Rattle.og_grammar.specs.declared.Symbol.TheVariants as symbol
@@ -9,13 +8,11 @@ use Rattle.og_grammar.specs.declared.Due.TheVariants.{Expect, Restore}
 use Rattle.og_grammar.specs.declared.Part.{Part}
 use Rattle.og_grammar.specs.declared.run.Step.{Step}
 use Rattle.og_grammar.specs.declared.run.Step.TheVariants as step
-use Rattle.og_grammar.specs.Sentence.{IsNotFirst, Derives, nothing, token, raising, passes, chosen, Nests, restores, skips, entered}
-use Rattle.og_grammar.specs.Predictive.{part_at}
+use Rattle.og_grammar.specs.Sentence.{IsNotFirst, Derives, token, raising, passes, chosen, restores, skips}
 use Rattle.og_grammar.specs.Rows.{choice_of, way_of}
 use Rattle.og_grammar.specs.Steps.{Stepped, by_choice, met, stepped}
 use Rattle.og_grammar.proofs.Sets.{is_same, not_same}
-use Rattle.og_grammar.proofs.Least.{Goes, Avoids}
-use Rattle.og_grammar.proofs.Stack.{MayStand, AreInLine, avoids_none}
+use Rattle.og_grammar.proofs.Stack.{MayStand, avoids_none}
 use Rattle.og_grammar.proofs.Choices.{IsSound, rows, leaves_choice, taken_way, forced}
 use Rattle.og_grammar.proofs.Advances.{symbols_due, IsBottomed, weight_due, Advances, under}
 use Rattle.og_grammar.proofs.Entering.{IsReady, lighter, entering}

@@ -1,7 +1,7 @@
 -- What a reader of a table answers: the one derivation of its tokens, the first token that no sentence has there, the first
 -- that nests too deep, or that the tokens break off. A token at which a sentence goes wrong is never one that nests too deep:
 -- what nests too deep still begins a sentence.
-use Rattle.std.specs.Prelude.{◌≡◌, ℕ, suc, ◌<◌, ◌≤◌, List, [], ◌∷◌, ◌++◌, length}
+use Rattle.std.specs.Prelude.{◌≡◌, ℕ, ◌<◌, ◌≤◌, List, ◌∷◌, ◌++◌, length}
 use Rattle.std.specs.List.{AllByRecursion}
 use Rattle.og_grammar.specs.declared.Symbol.{Symbol}
 use Rattle.og_grammar.specs.Sentence.{Spells, NestsAs}

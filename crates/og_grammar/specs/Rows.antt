@@ -1,5 +1,5 @@
 -- The rules of a table as a reader keeps them: each with the kinds of a next token at which it is taken.
-use Rattle.std.specs.Prelude.{ℕ, zero, suc, ◌%◌, Bool, List, [], ◌∷◌, ◌++◌, map, Option, Some, None, option_map, slice_get, position, if◌then◌else◌, ◌==◌}
+use Rattle.std.specs.Prelude.{ℕ, zero, suc, ◌%◌, List, [], ◌∷◌, ◌++◌, map, Option, Some, None, option_map, slice_get, position, if◌then◌else◌, ◌==◌}
 use Rattle.og_grammar.specs.declared.Symbol.{Symbol}
 use Rattle.og_grammar.specs.declared.Symbol.TheVariants.{Rule, Token, Raising, Scope, Maybe, Many, NotBefore}
 use Rattle.og_grammar.specs.declared.Symbol.TheVariants as symbol

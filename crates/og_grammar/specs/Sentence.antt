@@ -1,7 +1,7 @@
 -- Sentences of a table, as derivations. A derivation is the list of its choices from left to right: which rule of a part, whether
 -- an option is there (1) or not (0), whether a repetition goes on (1) or ends (0). It follows the usual notion of a leftmost
 -- derivation; a symbol that forbids the next token is this project's own.
-use Rattle.std.specs.Prelude.{◌≡◌, ◌≢◌, ℕ, zero, suc, Bool, true, false, List, [], ◌∷◌, ◌++◌, Option, Some, None, slice_get, if◌then◌else◌, ◌==◌}
+use Rattle.std.specs.Prelude.{◌≡◌, ◌≢◌, ℕ, suc, Bool, true, false, List, [], ◌∷◌, ◌++◌, Some, slice_get, if◌then◌else◌, ◌==◌}
 use Rattle.og_grammar.specs.declared.Symbol.{Symbol}
 use Rattle.og_grammar.specs.declared.Symbol.TheVariants.{Rule, Token, Raising, Part, Scope, Maybe, Many, NotBefore}
 use Rattle.og_grammar.specs.declared.Due.{Due}

@@ -1,6 +1,6 @@
 -- What a reader keeps between two tokens: each symbol that is due may stand before those behind it, all of them derive something,
 -- and before the next token the derivations are the same as before.
-use Rattle.std.specs.Prelude.{◌≡◌, ℕ, ◌<◌, ◌≤◌, ◌+◌, ◌^◌, Bool, true, false, List, [], ◌∷◌, ◌++◌, length, reverse, ◌⊎◌}
+use Rattle.std.specs.Prelude.{◌≡◌, ℕ, ◌<◌, ◌≤◌, ◌^◌, true, false, List, [], ◌∷◌, ◌++◌, length, reverse, ◌⊎◌}
 use Rattle.og_grammar.specs.declared.Symbol.{Symbol}
 use Rattle.og_grammar.specs.declared.Symbol.TheVariants.{Rule, Token, Raising, Scope, Maybe, Many, NotBefore}
 use Rattle.og_grammar.specs.declared.Symbol.TheVariants as symbol

@@ -1,4 +1,4 @@
-use Rattle.std.proofs.Common.{◌≡◌, ℕ, ◌+◌, List, get_or, take, reverse, refl, sym, subst}
+use Rattle.std.proofs.Common.{ℕ, ◌+◌, List, get_or, take, reverse, refl, sym, subst}
 use Rattle.og_grammar.specs.Answers.{IsFirstWrong, IsFirstTooDeep}
 use Rattle.og_grammar.specs.declared.run.Step.{Step}
 use Rattle.og_grammar.specs.declared.run.Run.{Run}

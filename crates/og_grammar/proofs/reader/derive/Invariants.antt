@@ -1,4 +1,4 @@
-use Rattle.std.proofs.Common.{reverse, take, ◌≤◌}
+use Rattle.std.proofs.Common.{reverse, take}
 use Rattle.og_grammar.specs.Standing.{Stands}
 use Rattle.og_grammar.proofs.reader.derive.Given as goal
 

@@ -1,4 +1,4 @@
-use Rattle.std.proofs.Common.{◌≡◌, subst, reverse}
+use Rattle.std.proofs.Common.{subst, reverse}
 use Rattle.og_grammar.specs.declared.run.Step.{Step}
 use Rattle.og_grammar.specs.Steps.{StepsTo, stepped}
 use Rattle.og_grammar.proofs.Reaching.{leads_on, gets_lighter, reaches_by}
