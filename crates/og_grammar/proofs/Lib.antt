@@ -11,3 +11,4 @@ pub mod Sound
 pub mod Standing
 pub mod Reaching
 pub mod Deriving
+pub mod Unique

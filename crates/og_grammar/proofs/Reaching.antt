@@ -13,6 +13,7 @@ use Rattle.og_grammar.specs.declared.run.Step.{Step}
 use Rattle.og_grammar.specs.declared.run.Step.TheVariants as step
 use Rattle.og_grammar.specs.Sentence.{nothing, token, whole, expected}
 use Rattle.og_grammar.specs.Predictive.{has, part_at, is_predictive}
+use Rattle.og_grammar.specs.Standing.{AreInLine}
 use Rattle.og_grammar.specs.Steps.{StepsTo, Stepped, stepped}
 pub use Rattle.og_grammar.specs.Standing.{LeadsTo, Reaches, IsFirst}
 use Rattle.og_grammar.proofs.Least.{Goes}
@@ -115,6 +116,9 @@ first_stands table parts last limit known =
       count_low = omega arith;
       low = tt;
     }
+
+pub first_ready : (table : List Symbol) (parts : List Part) (last : ℕ) → is_predictive table parts last ≡ true → AreInLine table parts (whole last)
+first_ready table parts last known = (first_stands table parts last 0 known).ready.line
 
 pub run_stands : (table : List Symbol) (parts : List Part) (last limit : ℕ) (run : Run) → is_predictive table parts last ≡ true → IsFirst last run → Stands table parts last limit [] (reverse run.due) run.count run.choices
 run_stands table parts last limit run known f =

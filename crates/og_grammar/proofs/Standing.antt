@@ -217,7 +217,7 @@ no_end : (last : ℕ) (front : List Symbol) → [] ≡ front ++ Token last ∷ [
 no_end last [] e = cc
 no_end last (s ∷ front) e = cc
 
-not_ended : {table : List Symbol} (last : ℕ) (front : List Symbol) {symbols : List Symbol} {ts cs : List ℕ} → Derives table symbols ts cs → symbols ≡ front ++ Token last ∷ [] → ts ≡ [] → ⊥
+pub not_ended : {table : List Symbol} (last : ℕ) (front : List Symbol) {symbols : List Symbol} {ts cs : List ℕ} → Derives table symbols ts cs → symbols ≡ front ++ Token last ∷ [] → ts ≡ [] → ⊥
 not_ended last front nothing e f = no_end last front e
 not_ended last front (token d) e f = cc
 not_ended last front (raising d) e f = cc

@@ -38,7 +38,7 @@ pub raising_is : {table : List Symbol} {t k : ℕ} {rest : List Symbol} {ts cs :
 raising_is (raising d) = (refl, d)
 raising_is (chosen _ c way w d) = absurd cc
 
-passes_is : {table : List Symbol} {t : ℕ} {rest : List Symbol} {ts cs : List ℕ} → Derives table (NotBefore t ∷ rest) ts cs → IsNotFirst t ts × Derives table rest ts cs
+pub passes_is : {table : List Symbol} {t : ℕ} {rest : List Symbol} {ts cs : List ℕ} → Derives table (NotBefore t ∷ rest) ts cs → IsNotFirst t ts × Derives table rest ts cs
 passes_is (passes apart d) = (apart, d)
 passes_is (chosen _ c way w d) = absurd cc
 

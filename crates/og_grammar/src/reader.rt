@@ -1,6 +1,8 @@
 //! The public call: the derivation of a list of tokens.
 ghost use Rattle.std.specs.Prelude.{◌≡◌, ℕ, List, IfOk, IsTrue, length, reverse};
 ghost use Rattle.og_grammar.specs.Sentence.{Spells};
+ghost use Rattle.og_grammar.specs.declared.Symbol.{Symbol};
+ghost use Rattle.og_grammar.specs.declared.Part.{Part};
 ghost use Rattle.og_grammar.specs.Predictive.{is_predictive};
 ghost use Rattle.og_grammar.specs.Rows.{rows_below};
 ghost use Rattle.og_grammar.specs.Answers.{IsDerivation, IsFirstWrong, IsFirstTooDeep, IsCutOff};
@@ -71,6 +73,14 @@ pub fn derive(
     } else {
         Err(Refusal::CutOff)
     }
+}
+
+/// A sentence has one derivation.
+#[tactic(auto, using(crate::proofs::Unique::one_derivation))]
+pub fn one_derivation()
+    ensures { (table : List Symbol) (parts : List Part) (last : ℕ) → IsTrue (is_predictive table parts last) → (tokens a b : List ℕ) →
+        Spells table last tokens a → Spells table last tokens b → a ≡ b }
+{
 }
 
 /// At the first token part 0 is due, and then the last token.
