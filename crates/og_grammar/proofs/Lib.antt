@@ -12,3 +12,4 @@ pub mod Standing
 pub mod Reaching
 pub mod Deriving
 pub mod Unique
+pub mod Limits

@@ -56,7 +56,7 @@ at_choice table s c way symbols cs w go count (Expect x ∷ due) e =
     let r = go count (entered count s way due) (ap (λ (z : List Symbol). way ++ z) (tail_is e) ∙ sym (due_entered count s way due)) in
     (r.0, subst (λ (z : Symbol). Nests table count (Expect z ∷ due) (c ∷ cs) r.0) (head_is e) (takes s c way w r.1))
 
-some_counts : {table : List Symbol} {symbols : List Symbol} {ts cs : List ℕ} → Derives table symbols ts cs → Follow table symbols cs
+pub some_counts : {table : List Symbol} {symbols : List Symbol} {ts cs : List ℕ} → Derives table symbols ts cs → Follow table symbols cs
 some_counts {table = table} nothing = at_end table
 some_counts {table = table} (token {k = k} {symbols = symbols} {choices = cs} d) = at_token table k symbols cs (some_counts d)
 some_counts {table = table} (raising {k = k} {symbols = symbols} {choices = cs} d) = at_raising table k symbols cs (some_counts d)

@@ -42,7 +42,7 @@ pub fn derive(
     table: &[Symbol],
     parts: &[Part],
     last: u8,
-    limit: u32,
+    limit: usize,
     kinds: &[u8],
 ) -> Result<Items<u8>, Refusal>
     requires { IsTrue (is_predictive table.now parts.now last) }
@@ -80,6 +80,12 @@ pub fn derive(
 pub fn one_derivation()
     ensures { (table : List Symbol) (parts : List Part) (last : ℕ) → IsTrue (is_predictive table parts last) → (tokens a b : List ℕ) →
         Spells table last tokens a → Spells table last tokens b → a ≡ b }
+{
+}
+
+/// A limit of as many as there are tokens is never passed.
+pub fn never_deeper()
+    ensures { (table : List Symbol) (last : ℕ) (tokens : List ℕ) (place : ℕ) → IsFirstTooDeep table last (length tokens) tokens place → ⊥ }
 {
 }
 

@@ -15,7 +15,7 @@ use std::alloc::AllocError;
 #[derive(Drop)]
 pub struct Run {
     pub due: Items<Due>,
-    pub count: u32,
+    pub count: usize,
     pub choices: Items<u8>,
 }
 

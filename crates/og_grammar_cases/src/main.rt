@@ -27,7 +27,7 @@ fn answer(alloc: Global, line: &str) -> Result<String, AllocError> {
         None => (line, ""),
         Some(both) => both,
     };
-    let limit = limit.parse::<u32>().unwrap_or(0);
+    let limit = limit.parse::<usize>().unwrap_or(0);
     let kinds = kinds_of(alloc, words)?;
     match derive(alloc, &TRIAL, &TRIAL_PARTS, LAST, limit, kinds.as_slice()) {
         Ok(choices) => shown(alloc, choices.as_slice()),
