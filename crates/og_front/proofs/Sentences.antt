@@ -1,11 +1,9 @@
 -- The tree of a derivation: its forms are the tokens.
-use Rattle.std.proofs.Common.{◌≡◌, ℕ, zero, suc, ◌+◌, ◌%◌, ◌<◌, ◌≤◌, Bool, true, false, cond, List, [], ◌∷◌, ◌++◌, length, get_or, map, Option, Some, None, slice_get, refl, sym, ap, subst, ◌∙◌, append_assoc, arith}
-use Rattle.std.specs.Prelude.{position}
+use Rattle.std.proofs.Common.{◌≡◌, ℕ, zero, suc, ◌%◌, ◌<◌, ◌≤◌, Bool, true, false, List, [], ◌∷◌, ◌++◌, length, get_or, Option, Some, None, slice_get, refl, sym, ap, subst, ◌∙◌, arith}
 use Rattle.std.specs.List.{flat_map}
 use Rattle.std.proofs.lemmas.List.Quantifiers.{position-Some}
 use Rattle.std.proofs.Math.Nat.{mod-eq_of_lt}
 use denote.Enum.Bare.{same_true}
-use Rattle.og_base.specs.declared.Place.{Place}
 use Rattle.og_lexer.specs.contracts.Keyword as keywords
 use Rattle.og_lexer.specs.contracts.Mark as marks
 use Rattle.og_lexer.specs.declared.Keyword.{Keyword}
@@ -17,7 +15,7 @@ use Rattle.og_lexer.specs.declared.Token.{Token}
 use Rattle.og_lexer.specs.declared.Token.TheVariants as token
 use Rattle.og_grammar.specs.declared.Symbol.{Symbol}
 use Rattle.og_grammar.specs.declared.Symbol.TheVariants as symbol
-use Rattle.og_grammar.specs.Sentence.{rules_of, ways, Derives, nothing, chosen, Spells as Derived}
+use Rattle.og_grammar.specs.Sentence.{rules_of, Derives, nothing, chosen, Spells as Derived}
 use Rattle.og_grammar.proofs.Telling.{token_is}
 use Rattle.og_grammar.proofs.Leading.{some_is}
 use Rattle.og_grammar.proofs.Unique.{one_derivation}
@@ -25,7 +23,6 @@ use Rattle.og_front.specs.declared.parse.Fixed.{Fixed}
 use Rattle.og_front.specs.declared.parse.Fixed.TheVariants as fixed
 use Rattle.og_front.specs.declared.kind.TheConstants.{FORMS}
 use Rattle.og_front.specs.declared.grammar.TheConstants.{GRAMMAR, PARTS, LAST}
-use Rattle.og_front.specs.declared.syntax.Ident.{Ident}
 use Rattle.og_front.specs.declared.syntax.SystemText.{SystemText}
 use Rattle.og_front.specs.Grammar.{Form, Reserved, ReservedAt, Sign, Named, Last, IsSo, Begins, next_forms, output_forms, input_forms, state_forms, further_forms, signal_forms, start_forms, closing_forms, system_forms, Spells}
 use Rattle.og_front.specs.Reading.{same_keyword, same_mark, is_fixed, fixed_place, kind_by, kind_of, kinds_of, Take, behind, after, goes_on, place_in, word_in, name_in, repeated, many, next_at, output_at, input_at, state_at, further_at, signal_at, start_at, system_at, tree_of}

@@ -1,6 +1,6 @@
 -- The tree of a model file as a function of its derivation and its tokens: each part is made of the choices and the tokens in
 -- front, and hands on those behind. Where tokens or choices are missing something is made all the same; a derivation has them.
-use Rattle.std.specs.Prelude.{◌≡◌, ℕ, zero, suc, ◌%◌, Bool, true, false, List, [], ◌∷◌, length, map, Option, Some, None, position, if◌then◌else◌, ◌==◌}
+use Rattle.std.specs.Prelude.{ℕ, zero, suc, ◌%◌, Bool, true, false, List, [], ◌∷◌, length, map, Option, Some, None, position, if◌then◌else◌, ◌==◌}
 use denote.Enum.Bare.{sameb}
 use Rattle.og_base.specs.declared.Place.{Place}
 use Rattle.og_names.specs.declared.Word.{Word}
