@@ -1,10 +1,10 @@
 -- A token raises the nesting by one at most, so a limit of as many as there are tokens is never passed.
-use Rattle.std.proofs.Common.{◌≡◌, ℕ, zero, suc, ◌+◌, ◌<◌, ◌≤◌, List, [], ◌∷◌, ◌++◌, length, refl, sym, ap, subst, ◌∙◌, length-append, arith, Bool, true, false, cond}
+use Rattle.std.proofs.Common.{◌≡◌, ℕ, suc, ◌+◌, ◌<◌, ◌≤◌, List, [], ◌∷◌, ◌++◌, length, refl, ap, ◌∙◌, length-append, arith}
 use Rattle.og_grammar.specs.declared.Symbol.{Symbol}
 use Rattle.og_grammar.specs.declared.Due.{Due}
 use Rattle.og_grammar.specs.declared.Due.TheVariants.{Expect, Restore}
 use Rattle.og_grammar.specs.Sentence.{whole, expected, Nests, ends, keeps, rises, restores, skips, takes}
-use Rattle.og_grammar.specs.Answers.{PassAt, IsFirstTooDeep}
+use Rattle.og_grammar.specs.Answers.{IsFirstTooDeep}
 use Rattle.og_grammar.proofs.Advances.{AreLow, low_entered}
 use Rattle.og_grammar.proofs.Leading.{head_is, tail_is}
 use Rattle.og_grammar.proofs.Standing.{some_counts}

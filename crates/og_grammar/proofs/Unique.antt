@@ -1,12 +1,12 @@
 -- A sentence of a table that passes the test has one derivation.
-use Rattle.std.proofs.Common.{◌≡◌, ℕ, Bool, true, false, List, [], ◌∷◌, ◌++◌, Some, slice_get, ◌⊎◌, inl, inr, refl, sym, ap, subst, ◌∙◌, append_assoc, IsTrue}
+use Rattle.std.proofs.Common.{◌≡◌, ℕ, true, List, [], ◌∷◌, ◌++◌, Some, slice_get, ◌⊎◌, inl, inr, refl, sym, ap, subst, ◌∙◌, append_assoc, IsTrue}
 use Rattle.og_grammar.specs.declared.Symbol.{Symbol}
 use Rattle.og_grammar.specs.declared.Symbol.TheVariants.{Rule, Token, Raising, Scope, Maybe, Many, NotBefore}
 use Rattle.og_grammar.specs.declared.Symbol.TheVariants as symbol
 use Rattle.og_grammar.specs.declared.Part.{Part}
 use Rattle.og_grammar.specs.Sentence.{ways, Derives, nothing, token, raising, passes, chosen, Spells}
 use Rattle.og_grammar.specs.Predictive.{is_predictive}
-use Rattle.og_grammar.specs.Rows.{choice_of, way_of}
+use Rattle.og_grammar.specs.Rows.{way_of}
 use Rattle.og_grammar.specs.Standing.{AreInLine}
 use Rattle.og_grammar.proofs.Leading.{some_is, head_is, tail_is}
 use Rattle.og_grammar.proofs.Choices.{IsSound, rows, leaves_choice, taken_way, forced}
@@ -39,7 +39,6 @@ none_left : {table : List Symbol} {cs : List ℕ} → Derives table [] [] cs →
 none_left nothing = refl
 
 module _ (table : List Symbol) (parts : List Part) (last : ℕ) (sound : IsSound table parts last) where
-
   -- a choice is the same in both, if it is the same in what is behind it
   same_choice : (s : Symbol) (c : ℕ) (way rest : List Symbol) (cs b : List ℕ) → slice_get (ways table s) c ≡ Some way → AreInLine table parts (s ∷ rest) → Closed last (s ∷ rest) → (ts : List ℕ)
       → Derives table (way ++ rest) ts cs → Derives table (s ∷ rest) ts b

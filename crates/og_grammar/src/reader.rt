@@ -80,14 +80,12 @@ pub fn derive(
 pub fn one_derivation()
     ensures { (table : List Symbol) (parts : List Part) (last : ℕ) → IsTrue (is_predictive table parts last) → (tokens a b : List ℕ) →
         Spells table last tokens a → Spells table last tokens b → a ≡ b }
-{
-}
+{}
 
 /// A limit of as many as there are tokens is never passed.
 pub fn never_deeper()
     ensures { (table : List Symbol) (last : ℕ) (tokens : List ℕ) (place : ℕ) → IsFirstTooDeep table last (length tokens) tokens place → ⊥ }
-{
-}
+{}
 
 /// At the first token part 0 is due, and then the last token.
 fn first_run(alloc: Global, last: u8) -> Result<Run, AllocError>
