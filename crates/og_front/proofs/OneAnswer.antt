@@ -8,9 +8,8 @@ use Rattle.og_lexer.specs.Texts.{Lexes, FirstLexical}
 use Rattle.og_front.specs.declared.syntax.SystemText.{SystemText}
 use Rattle.og_front.specs.Files.{IsTextOf, IsAccepted, BreaksGrammar, FirstViolation}
 use Rattle.og_front.specs.Grammar.{Spells}
-use Rattle.og_front.specs.Reading.{sentence}
 use Rattle.og_front.specs.Rules.{first_of_rules}
-use Rattle.og_front.proofs.Sentences.{spelt_is_sentence}
+use Rattle.og_front.proofs.Sentences.{one_tree}
 use Rattle.og_names.proofs.Truths.{same_value as same_some}
 
 -- what the lexer's law says
@@ -25,8 +24,7 @@ Apart = (file : ℕ) (bytes : List ℕ) (tokens : List Spanned) (comments : List
 
 -- tokens have one tree at most
 same_tree : (a b : SystemText) (tokens others : List Spanned) → tokens ≡ others → Spells a tokens → Spells b others → a ≡ b
-same_tree a b tokens others same one other =
-    same_some a b (sym (spelt_is_sentence tokens a one) ∙ ap sentence same ∙ spelt_is_sentence others b other)
+same_tree a b tokens others same one other = one_tree a b others (subst (λ (ts : List Spanned). Spells a ts) same one) other
 
 pub same_system : OneText → (bytes : List ℕ) (a b : SystemText) → IsTextOf a bytes → IsTextOf b bytes → a ≡ b
 same_system texts bytes a b one other =

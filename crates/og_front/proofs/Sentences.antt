@@ -1,448 +1,444 @@
--- Reading is the grammar: what is read stands in front of the tokens, and what stands in front is read.
-use Rattle.std.proofs.Common.{◌≡◌, ℕ, zero, suc, ◌+◌, ◌≤◌, Bool, true, false, cond, List, [], ◌∷◌, ◌++◌, length, Option, Some, None, Result, Ok, Err, refl, sym, ap, subst, ◌∙◌, ◌⊎◌, inl, inr, arith, rules}
-use Rattle.std.specs.Prelude.{IfOk, IsErrOf}
+-- The tree of a derivation: its forms are the tokens.
+use Rattle.std.proofs.Common.{◌≡◌, ℕ, zero, suc, ◌%◌, ◌<◌, ◌≤◌, Bool, true, false, List, [], ◌∷◌, ◌++◌, length, get_or, Option, Some, None, slice_get, refl, sym, ap, subst, ◌∙◌, arith}
 use Rattle.std.specs.List.{flat_map}
-use denote.Enum.Bare.{same_true, true_same}
-use Rattle.og_base.specs.declared.Place.{Place}
+use Rattle.std.proofs.lemmas.List.Quantifiers.{position-Some}
+use Rattle.std.proofs.Math.Nat.{mod-eq_of_lt}
+use denote.Enum.Bare.{same_true}
 use Rattle.og_lexer.specs.contracts.Keyword as keywords
 use Rattle.og_lexer.specs.contracts.Mark as marks
 use Rattle.og_lexer.specs.declared.Keyword.{Keyword}
 use Rattle.og_lexer.specs.declared.Keyword.TheVariants as keyword
+use Rattle.og_lexer.specs.declared.Mark.{Mark}
 use Rattle.og_lexer.specs.declared.Mark.TheVariants.{Semicolon, Comma}
 use Rattle.og_lexer.specs.declared.Spanned.{Spanned}
 use Rattle.og_lexer.specs.declared.Token.{Token}
 use Rattle.og_lexer.specs.declared.Token.TheVariants as token
-use Rattle.og_front.specs.declared.parse.ParseError.{ParseError}
-use Rattle.og_front.specs.declared.parse.ParseError.TheVariants.{NoSentence, NoMemory}
-use Rattle.og_front.specs.declared.parse.Symbol.{Symbol}
-use Rattle.og_front.specs.declared.parse.Symbol.TheVariants as symbol
-use Rattle.og_front.specs.declared.syntax.Ident.{Ident}
+use Rattle.og_grammar.specs.declared.Symbol.{Symbol}
+use Rattle.og_grammar.specs.declared.Symbol.TheVariants as symbol
+use Rattle.og_grammar.specs.Sentence.{rules_of, Derives, nothing, chosen, Spells as Derived}
+use Rattle.og_grammar.proofs.Telling.{token_is}
+use Rattle.og_grammar.proofs.Leading.{some_is}
+use Rattle.og_grammar.proofs.Unique.{one_derivation}
+use Rattle.og_front.specs.declared.parse.Fixed.{Fixed}
+use Rattle.og_front.specs.declared.parse.Fixed.TheVariants as fixed
+use Rattle.og_front.specs.declared.kind.TheConstants.{FORMS}
+use Rattle.og_front.specs.declared.grammar.TheConstants.{GRAMMAR, PARTS, LAST}
 use Rattle.og_front.specs.declared.syntax.SystemText.{SystemText}
-use Rattle.og_front.specs.declared.syntax.SignalText.{SignalText}
-use Rattle.og_front.specs.declared.syntax.StartText.{StartText}
-use Rattle.og_front.specs.declared.syntax.StateText.{StateText}
-use Rattle.og_front.specs.declared.syntax.InputText.{InputText}
-use Rattle.og_front.specs.declared.syntax.NextText.{NextText}
 use Rattle.og_front.specs.Grammar.{Form, Reserved, ReservedAt, Sign, Named, Last, IsSo, Begins, next_forms, output_forms, input_forms, state_forms, further_forms, signal_forms, start_forms, closing_forms, system_forms, Spells}
-use Rattle.og_front.specs.Reading.{Read, Gives, ◌>>=◌, both, made, same_keyword, same_mark, is_symbol, begins, symbol_at, passed, named, name_at, repeated, many, closing_at, ending_at, heading_at, title_at, next_at, outputs_at, input_at, inputs_at, state_at, states_at, further_at, furthers_at, signal_at, signals_at, start_at, closings_at, body_at, system_at, ended, sentence}
+use Rattle.og_front.specs.Reading.{same_keyword, same_mark, is_fixed, fixed_place, kind_by, kind_of, kinds_of, Take, behind, after, goes_on, place_in, word_in, name_in, repeated, many, next_at, output_at, input_at, state_at, further_at, signal_at, start_at, system_at, tree_of}
 use Rattle.og_front.proofs.Repeats.{turn, stop}
 
--- ---- tokens in front
+-- ---- the form of a token by its kind
+
+form_at : (t : Token) (place : ℕ) → fixed_place t ≡ Some place → (place < 17) × (is_fixed (get_or FORMS place fixed.End) t ≡ true)
+unfolding fixed_place
+form_at t place e = let p = position-Some (λ form. is_fixed form t) FORMS place fixed.End e in (p.0, p.1)
+
+small : (k : ℕ) → k < 17 → k % 256 ≡ k
+small k lt = let below : k < 256 = omega arith in mod-eq_of_lt below
+
+form_by : (t : Token) (o : Option ℕ) (k : ℕ) → fixed_place t ≡ o → kind_by o ≡ k → k < 17 → is_fixed (get_or FORMS k fixed.End) t ≡ true
+form_by t None k e f lt = absurd (omega arith)
+form_by t (Some place) k e f lt =
+    let p = form_at t place e in
+    let same : place ≡ k = sym (small place p.0) ∙ f in
+    subst (λ (n : ℕ). is_fixed (get_or FORMS n fixed.End) t ≡ true) same p.1
+
+form_is : (t : Token) (k : ℕ) → kind_of t ≡ k → k < 17 → is_fixed (get_or FORMS k fixed.End) t ≡ true
+form_is t k e lt = form_by t (fixed_place t) k refl e lt
+
+keyword_is : (word : Keyword) (t : Token) → is_fixed (fixed.Keyword word) t ≡ true → t ≡ token.Keyword word
+unfolding same_keyword
+keyword_is word (token.Keyword found) e = ap token.Keyword (same_true keywords.the_type tt found word e)
+keyword_is word (token.Name x) e = absurd cc
+keyword_is word (token.Number x) e = absurd cc
+keyword_is word (token.Text x) e = absurd cc
+keyword_is word (token.Mark x) e = absurd cc
+keyword_is word token.End e = absurd cc
+
+mark_is : (mark : Mark) (t : Token) → is_fixed (fixed.Mark mark) t ≡ true → t ≡ token.Mark mark
+unfolding same_mark
+mark_is mark (token.Mark found) e = ap token.Mark (same_true marks.the_type tt found mark e)
+mark_is mark (token.Name x) e = absurd cc
+mark_is mark (token.Number x) e = absurd cc
+mark_is mark (token.Text x) e = absurd cc
+mark_is mark (token.Keyword x) e = absurd cc
+mark_is mark token.End e = absurd cc
+
+end_is : (t : Token) → is_fixed fixed.End t ≡ true → t ≡ token.End
+end_is token.End e = refl
+end_is (token.Name x) e = absurd cc
+end_is (token.Number x) e = absurd cc
+end_is (token.Text x) e = absurd cc
+end_is (token.Keyword x) e = absurd cc
+end_is (token.Mark x) e = absurd cc
+
+-- ---- one token
+
+-- a token of this form stands in front, and the derivation goes on behind it
+record Steps (form : Form) (rest : List Symbol) (tokens : List Spanned) (choices : List ℕ) : Type 0 where
+  first : Spanned
+  is : tokens ≡ first ∷ behind tokens
+  so : IsSo form first
+  goes_on : Derives GRAMMAR rest (kinds_of (behind tokens)) choices
+
+no_token : {k : ℕ} {rest : List Symbol} {choices : List ℕ} → Derives GRAMMAR (symbol.Token k ∷ rest) [] choices → ⊥
+no_token (chosen _ c way w d) = absurd cc
+
+step_keyword : (k : ℕ) (word : Keyword) → k < 17 → get_or FORMS k fixed.End ≡ fixed.Keyword word → (rest : List Symbol) (tokens : List Spanned) (choices : List ℕ)
+    → Derives GRAMMAR (symbol.Token k ∷ rest) (kinds_of tokens) choices → Steps (ReservedAt word (place_in tokens)) rest tokens choices
+step_keyword k word lt is rest [] choices d = absurd (no_token d)
+step_keyword k word lt is rest (t ∷ ts) choices d =
+    let i = token_is d in
+    let shown : t.token ≡ token.Keyword word = keyword_is word t.token (subst (λ (f : Fixed). is_fixed f t.token ≡ true) is (form_is t.token k (sym i.0) lt)) in
+    record { first = t; is = refl; so = (shown, refl); goes_on = i.1 }
+
+step_reserved : (k : ℕ) (word : Keyword) → k < 17 → get_or FORMS k fixed.End ≡ fixed.Keyword word → (rest : List Symbol) (tokens : List Spanned) (choices : List ℕ)
+    → Derives GRAMMAR (symbol.Token k ∷ rest) (kinds_of tokens) choices → Steps (Reserved word) rest tokens choices
+step_reserved k word lt is rest tokens choices d =
+    let s = step_keyword k word lt is rest tokens choices d in
+    record { first = s.first; is = s.is; so = s.so.0; goes_on = s.goes_on }
+
+step_sign : (k : ℕ) (mark : Mark) → k < 17 → get_or FORMS k fixed.End ≡ fixed.Mark mark → (rest : List Symbol) (tokens : List Spanned) (choices : List ℕ)
+    → Derives GRAMMAR (symbol.Token k ∷ rest) (kinds_of tokens) choices → Steps (Sign mark) rest tokens choices
+step_sign k mark lt is rest [] choices d = absurd (no_token d)
+step_sign k mark lt is rest (t ∷ ts) choices d =
+    let i = token_is d in
+    let shown : t.token ≡ token.Mark mark = mark_is mark t.token (subst (λ (f : Fixed). is_fixed f t.token ≡ true) is (form_is t.token k (sym i.0) lt)) in
+    record { first = t; is = refl; so = shown; goes_on = i.1 }
+
+step_last : (rest : List Symbol) (tokens : List Spanned) (choices : List ℕ) → Derives GRAMMAR (symbol.Token 16 ∷ rest) (kinds_of tokens) choices → Steps Last rest tokens choices
+step_last rest [] choices d = absurd (no_token d)
+step_last rest (t ∷ ts) choices d =
+    let i = token_is d in
+    record { first = t; is = refl; so = end_is t.token (form_is t.token 16 (sym i.0) (omega arith)); goes_on = i.1 }
+
+step_name : (rest : List Symbol) (tokens : List Spanned) (choices : List ℕ) → Derives GRAMMAR (symbol.Token 0 ∷ rest) (kinds_of tokens) choices → Steps (Named (name_in tokens)) rest tokens choices
+step_name rest [] choices d = absurd (no_token d)
+step_name rest (t ∷ ts) choices d =
+    let i = token_is d in
+    record { first = t; is = refl; so = (name_shown t.token (form_is t.token 0 (sym i.0) (omega arith)), refl); goes_on = i.1 }
+  where
+    name_shown : (t : Token) → is_fixed fixed.Name t ≡ true → t ≡ token.Name (word_in (record { token = t; place = record { file = 0; line = 0; column = 0 }; start = 0; «end» = 0 } ∷ []))
+    name_shown (token.Name word) e = refl
+    name_shown (token.Number x) e = absurd cc
+    name_shown (token.Text x) e = absurd cc
+    name_shown (token.Keyword x) e = absurd cc
+    name_shown (token.Mark x) e = absurd cc
+    name_shown token.End e = absurd cc
+
+-- ---- parts
 
 Begins-append : (a b : List Form) (tokens mid rest : List Spanned) → Begins a tokens mid → Begins b mid rest → Begins (a ++ b) tokens rest
 Begins-append [] b tokens mid rest e h = subst (λ (t : List Spanned). Begins b t rest) (sym e) h
 Begins-append (f ∷ fs) b tokens mid rest g h = (g.0, g.1, g.2, g.3, Begins-append fs b g.1 mid rest g.4 h)
 
-Begins-split : (a b : List Form) (tokens rest : List Spanned) → Begins (a ++ b) tokens rest → (mid : List Spanned) × Begins a tokens mid × Begins b mid rest
-Begins-split [] b tokens rest h = (tokens, refl, h)
-Begins-split (f ∷ fs) b tokens rest h =
-    let r = Begins-split fs b h.1 rest h.4 in (r.0, (h.0, h.1, h.2, h.3, r.1), r.2)
+-- what is made of a part has the forms of the tokens in front, and the derivation goes on behind them
+record Reads {X : Type 0} (first : Symbol) (p : Take X) (forms : X → List Form) : Type 0 where
+  begins : (rest : List Symbol) (tokens : List Spanned) (choices : List ℕ) → Derives GRAMMAR (first ∷ rest) (kinds_of tokens) choices → Begins (forms (p choices tokens).0) tokens (p choices tokens).2
+  goes_on : (rest : List Symbol) (tokens : List Spanned) (choices : List ℕ) → Derives GRAMMAR (first ∷ rest) (kinds_of tokens) choices → Derives GRAMMAR rest (kinds_of (p choices tokens).2) (p choices tokens).1
+  shorter : (tokens : List Spanned) (choices : List ℕ) → length (p choices tokens).1 ≤ length choices
 
-Begins-length : (a : List Form) (tokens rest : List Spanned) → Begins a tokens rest → length tokens ≡ length a + length rest
-Begins-length [] tokens rest e = ap length e ∙ omega arith
-Begins-length (f ∷ fs) tokens rest h = let l = Begins-length fs h.1 rest h.4 in ap length h.2 ∙ omega arith
+-- the one rule of a part
+only_way : (way : List Symbol) (c : ℕ) (w : List Symbol) → slice_get (way ∷ []) c ≡ Some w → way ≡ w
+only_way way zero w e = some_is way w e
+only_way way (suc c) w e = absurd cc
 
--- ---- what reads exactly what the forms of a tree spell, where what follows is as it says
+part_is : (p : ℕ) (way : List Symbol) → rules_of p GRAMMAR ≡ way ∷ [] → {rest : List Symbol} {kinds choices : List ℕ} → Derives GRAMMAR (symbol.Part p ∷ rest) kinds choices → Derives GRAMMAR (way ++ rest) kinds (after choices)
+part_is p way one {rest = rest} {kinds = kinds} (chosen {choices = cs} _ c w e d) =
+    subst (λ (x : List Symbol). Derives GRAMMAR (x ++ rest) kinds cs) (sym (only_way way c w (subst (λ (rules : List (List Symbol)). slice_get rules c ≡ Some w) one e))) d
 
-pub record Exact {X : Type 0} (p : Read X) (forms : X → List Form) (Follows : List Spanned → Type 0) : Type 0 where
-  pub sound : (tokens rest : List Spanned) (x : X) → p tokens ≡ Some (x, rest) → Begins (forms x) tokens rest
-  pub complete : (tokens rest : List Spanned) (x : X) → Begins (forms x) tokens rest → Follows rest → p tokens ≡ Some (x, rest)
-
-abbrev Anything : List Spanned → Type 0
-Anything rest = Unit {0}
-
-abbrev EndsAt : Symbol → List Spanned → Type 0
-EndsAt s rest = begins s rest ≡ false
-
-bind_some : {A B : Type 0} (o : Option A) (f : A → Option B) (y : B) → (o >>= f) ≡ Some y → (x : A) × (o ≡ Some x) × (f x ≡ Some y)
-bind_some None f y e = absurd cc
-bind_some (Some x) f y e = (x, refl, e)
-
-abbrev some : {A : Type 0} → A → Option A
-some x = Some x
-
-some_is : {A : Type 0} (x y : A) → some x ≡ some y → x ≡ y
-some_is x y e = cc
-
-both_exact : {X Y : Type 0} {p : Read X} {q : Read Y} {f : X → List Form} {g : Y → List Form} {P Q : List Spanned → Type 0} → Exact p f P → Exact q g Q
-    → ((y : Y) (tokens rest : List Spanned) → Begins (g y) tokens rest → P tokens) → Exact (both p q) (λ x. f x.0 ++ g x.1) Q
-both_exact {X = X} {Y = Y} {p = p} {q = q} {f = f} {g = g} first second apart = record {
-  sound = λ tokens rest x e.
-      let a = bind_some (p tokens) (λ x. q x.1 >>= λ y. Some ((x.0, y.0), y.1)) (x, rest) e in
-      let b = bind_some (q a.0.1) (λ y. Some ((a.0.0, y.0), y.1)) (x, rest) a.2 in
-      let made_is : ((a.0.0, b.0.0), b.0.1) ≡ (x, rest) = some_is ((a.0.0, b.0.0), b.0.1) (x, rest) b.2 in
-      subst (λ (z : (X × Y) × List Spanned). Begins (f z.0.0 ++ g z.0.1) tokens z.1) made_is
-      (Begins-append (f a.0.0) (g b.0.0) tokens a.0.1 b.0.1 (first.sound tokens a.0.1 a.0.0 a.1) (second.sound a.0.1 b.0.1 b.0.0 b.1));
-  complete = λ tokens rest x h follows.
-      let s = Begins-split (f x.0) (g x.1) tokens rest h in
-      let one : p tokens ≡ Some (x.0, s.0) = first.complete tokens s.0 x.0 s.1 (apart x.1 s.0 rest s.2) in
-      let two : q s.0 ≡ Some (x.1, rest) = second.complete s.0 rest x.1 s.2 follows in
-      rw (one, two) refl;
-}
-
--- the same where the first says nothing of what follows
-then_exact : {X Y : Type 0} {p : Read X} {q : Read Y} {f : X → List Form} {g : Y → List Form} {Q : List Spanned → Type 0} → Exact p f Anything → Exact q g Q → Exact (both p q) (λ x. f x.0 ++ g x.1) Q
-then_exact first second = both_exact first second (λ _ _ _ _. tt)
-
-made_exact : {X Y : Type 0} {p : Read X} {f : X → List Form} {g : Y → List Form} {P : List Spanned → Type 0} (make : X → Y) → Exact p f P
-    → ((x : X) (tokens rest : List Spanned) → Begins (f x) tokens rest → Begins (g (make x)) tokens rest)
-    → ((y : Y) (tokens rest : List Spanned) → Begins (g y) tokens rest → (x : X) × (make x ≡ y) × Begins (f x) tokens rest)
-    → Exact (made make p) g P
-made_exact {Y = Y} {p = p} {g = g} make reads keeps comes = record {
-  sound = λ tokens rest y e.
-      let a = bind_some (p tokens) (λ x. Some (make x.0, x.1)) (y, rest) e in
-      let made_is : (make a.0.0, a.0.1) ≡ (y, rest) = some_is (make a.0.0, a.0.1) (y, rest) a.2 in
-      subst (λ (z : Y × List Spanned). Begins (g z.0) tokens z.1) made_is (keeps a.0.0 tokens a.0.1 (reads.sound tokens a.0.1 a.0.0 a.1));
-  complete = λ tokens rest y h follows.
-      let x = comes y tokens rest h in
-      let one : p tokens ≡ Some (x.0, rest) = reads.complete tokens rest x.0 x.2 follows in
-      rw one (ap (λ (z : Y). Some (z, rest)) x.1);
-}
-
--- ---- one token
-
-abbrev shown : Symbol → Token
-shown (symbol.Keyword word) = token.Keyword word
-shown (symbol.Mark mark) = token.Mark mark
-shown symbol.End = token.End
-
-is_symbol-true : (s : Symbol) (t : Token) → is_symbol s t ≡ true → t ≡ shown s
-unfolding same_keyword same_mark
-is_symbol-true (symbol.Keyword word) (token.Keyword found) e = ap token.Keyword (same_true keywords.the_type tt found word e)
-is_symbol-true (symbol.Mark mark) (token.Mark found) e = ap token.Mark (same_true marks.the_type tt found mark e)
-is_symbol-true symbol.End token.End e = refl
-is_symbol-true (symbol.Keyword word) (token.Name x) e = absurd cc
-is_symbol-true (symbol.Keyword word) (token.Number x) e = absurd cc
-is_symbol-true (symbol.Keyword word) (token.Text x) e = absurd cc
-is_symbol-true (symbol.Keyword word) (token.Mark x) e = absurd cc
-is_symbol-true (symbol.Keyword word) token.End e = absurd cc
-is_symbol-true (symbol.Mark mark) (token.Name x) e = absurd cc
-is_symbol-true (symbol.Mark mark) (token.Number x) e = absurd cc
-is_symbol-true (symbol.Mark mark) (token.Text x) e = absurd cc
-is_symbol-true (symbol.Mark mark) (token.Keyword x) e = absurd cc
-is_symbol-true (symbol.Mark mark) token.End e = absurd cc
-is_symbol-true symbol.End (token.Name x) e = absurd cc
-is_symbol-true symbol.End (token.Number x) e = absurd cc
-is_symbol-true symbol.End (token.Text x) e = absurd cc
-is_symbol-true symbol.End (token.Keyword x) e = absurd cc
-is_symbol-true symbol.End (token.Mark x) e = absurd cc
-
-is_symbol-shown : (s : Symbol) → is_symbol s (shown s) ≡ true
-unfolding same_keyword same_mark
-is_symbol-shown (symbol.Keyword word) = true_same keywords.the_type word word refl
-is_symbol-shown (symbol.Mark mark) = true_same marks.the_type mark mark refl
-is_symbol-shown symbol.End = refl
-
--- a token in front, with its place
-abbrev IsFront : Token → Place → List Spanned → List Spanned → Type 0
-IsFront shown place tokens rest = (t : Spanned) × (more : List Spanned) × (tokens ≡ t ∷ more) × ((t.token ≡ shown) × (t.place ≡ place)) × (more ≡ rest)
-
-guarded : {A : Type 0} (b : Bool) (x y : A) → cond b (Some x) None ≡ Some y → (b ≡ true) × (x ≡ y)
-guarded true x y e = (refl, cc)
-guarded false x y e = absurd cc
-
-symbol_sound : (s : Symbol) (tokens rest : List Spanned) (place : Place) → symbol_at s tokens ≡ Some (place, rest) → IsFront (shown s) place tokens rest
-unfolding symbol_at
-symbol_sound s [] rest place e = absurd cc
-symbol_sound s (t ∷ ts) rest place e =
-    let g = guarded (is_symbol s t.token) (t.place, ts) (place, rest) e in
-    (t, ts, refl, (is_symbol-true s t.token g.0, ap (λ (z : Place × List Spanned). z.0) g.1), ap (λ (z : Place × List Spanned). z.1) g.1)
-
-symbol_complete : (s : Symbol) (tokens rest : List Spanned) (place : Place) → IsFront (shown s) place tokens rest → symbol_at s tokens ≡ Some (place, rest)
-unfolding symbol_at
-symbol_complete s tokens rest place h =
-    let b : is_symbol s h.0.token ≡ true = ap (is_symbol s) h.3.0 ∙ is_symbol-shown s in
-    ap (symbol_at s) h.2 ∙ rw b (ap (λ (z : Place). Some (z, h.1)) h.3.1 ∙ ap (λ (z : List Spanned). Some (place, z)) h.4)
-
-keyword_exact : (word : Keyword) → Exact (symbol_at (symbol.Keyword word)) (λ place. ReservedAt word place ∷ []) Anything
-keyword_exact word = record {
-  sound = λ tokens rest place e. symbol_sound (symbol.Keyword word) tokens rest place e;
-  complete = λ tokens rest place h follows. symbol_complete (symbol.Keyword word) tokens rest place h;
-}
-
-abbrev plain : Symbol → Form
-plain (symbol.Keyword word) = Reserved word
-plain (symbol.Mark mark) = Sign mark
-plain symbol.End = Last
-
-plain_is : (s : Symbol) (t : Spanned) → t.token ≡ shown s → IsSo (plain s) t
-plain_is (symbol.Keyword word) t e = e
-plain_is (symbol.Mark mark) t e = e
-plain_is symbol.End t e = e
-
-plain_shows : (s : Symbol) (t : Spanned) → IsSo (plain s) t → t.token ≡ shown s
-plain_shows (symbol.Keyword word) t e = e
-plain_shows (symbol.Mark mark) t e = e
-plain_shows symbol.End t e = e
-
-passed_exact : (s : Symbol) → Exact (passed s) (λ _. plain s ∷ []) Anything
-passed_exact s = record {
-  sound = λ tokens rest x e.
-      let a = bind_some (symbol_at s tokens) (λ x. Some (tt, x.1)) (x, rest) e in
-      let h = symbol_sound s tokens a.0.1 a.0.0 a.1 in
-      let behind : a.0.1 ≡ rest = ap (λ (z : Unit {0} × List Spanned). z.1) (some_is (tt, a.0.1) (x, rest) a.2) in
-      (h.0, h.1, h.2, plain_is s h.0 h.3.0, h.4 ∙ behind);
-  complete = λ tokens rest x h follows.
-      let one : symbol_at s tokens ≡ Some (h.0.place, rest) = symbol_complete s tokens rest h.0.place (h.0, h.1, h.2, (plain_shows s h.0 h.3, refl), h.4) in
-      rw one refl;
-}
-
-named_sound : (t : Token) (place : Place) (ts rest : List Spanned) (name : Ident) → named t place ts ≡ Some (name, rest) → (t ≡ token.Name name.word) × (place ≡ name.place) × (ts ≡ rest)
-named_sound (token.Name word) place ts rest name e =
-    let both_are : (record { place = place; word = word }, ts) ≡ (name, rest) = some_is (record { place = place; word = word }, ts) (name, rest) e in
-    let first : record { place = place; word = word } ≡ name = ap (λ (z : Ident × List Spanned). z.0) both_are in
-    (ap (λ (n : Ident). token.Name n.word) first, ap (λ (n : Ident). n.place) first, ap (λ (z : Ident × List Spanned). z.1) both_are)
-named_sound (token.Keyword x) place ts rest name e = absurd cc
-named_sound (token.Number x) place ts rest name e = absurd cc
-named_sound (token.Text x) place ts rest name e = absurd cc
-named_sound (token.Mark x) place ts rest name e = absurd cc
-named_sound token.End place ts rest name e = absurd cc
-
-name_sound : (tokens rest : List Spanned) (name : Ident) → name_at tokens ≡ Some (name, rest) → Begins (Named name ∷ []) tokens rest
-unfolding name_at
-name_sound [] rest name e = absurd cc
-name_sound (t ∷ ts) rest name e =
-    let h = named_sound t.token t.place ts rest name e in (t, ts, refl, (h.0, h.1), h.2)
-
-name_complete : (tokens rest : List Spanned) (name : Ident) → Begins (Named name ∷ []) tokens rest → name_at tokens ≡ Some (name, rest)
-unfolding name_at
-name_complete tokens rest name h =
-    ap name_at h.2 ∙ ap (λ (t : Token). named t h.0.place h.1) h.3.0 ∙ ap (λ (p : Place). named (token.Name name.word) p h.1) h.3.1 ∙ ap (λ (z : List Spanned). Some (name, z)) h.4
-
-name_exact : Exact name_at (λ name. Named name ∷ []) Anything
-name_exact = record { sound = λ tokens rest name e. name_sound tokens rest name e; complete = λ tokens rest name h follows. name_complete tokens rest name h }
-
--- ---- the token by which a tree begins
-
-abbrev opening : List Form → Option Token
-opening [] = None
-opening (Reserved word ∷ fs) = Some (token.Keyword word)
-opening (ReservedAt word place ∷ fs) = Some (token.Keyword word)
-opening (Sign mark ∷ fs) = Some (token.Mark mark)
-opening (Named name ∷ fs) = None
-opening (Last ∷ fs) = Some token.End
-
-opening_is : (fs : List Form) (first : Token) (tokens rest : List Spanned) → opening fs ≡ Some first → Begins fs tokens rest → (t : Spanned) × (more : List Spanned) × (tokens ≡ t ∷ more) × (t.token ≡ first)
-opening_is [] first tokens rest o h = absurd cc
-opening_is (Reserved word ∷ fs) first tokens rest o h = (h.0, h.1, h.2, h.3 ∙ some_is (token.Keyword word) first o)
-opening_is (ReservedAt word place ∷ fs) first tokens rest o h = (h.0, h.1, h.2, h.3.0 ∙ some_is (token.Keyword word) first o)
-opening_is (Sign mark ∷ fs) first tokens rest o h = (h.0, h.1, h.2, h.3 ∙ some_is (token.Mark mark) first o)
-opening_is (Named name ∷ fs) first tokens rest o h = absurd cc
-opening_is (Last ∷ fs) first tokens rest o h = (h.0, h.1, h.2, h.3 ∙ some_is token.End first o)
-
-begins_by : (s : Symbol) (fs : List Form) (first : Token) (b : Bool) (tokens rest : List Spanned) → opening fs ≡ Some first → is_symbol s first ≡ b → Begins fs tokens rest → begins s tokens ≡ b
-unfolding begins
-begins_by s fs first b tokens rest o e h =
-    let t = opening_is fs first tokens rest o h in
-    ap (begins s) t.2 ∙ ap (is_symbol s) t.3 ∙ e
+after_shorter : (choices : List ℕ) → length (after choices) ≤ length choices
+after_shorter [] = omega arith
+after_shorter (c ∷ cs) = omega arith
 
 -- ---- repetitions
 
-either : {A : Type 0} (b : Bool) (x y z : A) → cond b x y ≡ z → ((b ≡ true) × (x ≡ z)) ⊎ ((b ≡ false) × (y ≡ z))
-either true x y z e = inl (refl, e)
-either false x y z e = inr (refl, e)
+-- how a repetition goes on: not at all, or with one part more
+record Repeats (p : ℕ) (rest : List Symbol) (kinds choices : List ℕ) : Type 0 where
+  ends : goes_on choices ≡ false → Derives GRAMMAR rest kinds (after choices)
+  more : goes_on choices ≡ true → Derives GRAMMAR (symbol.Part p ∷ symbol.Many p ∷ rest) kinds (after choices)
+  left : 0 < length choices
 
-repeated_sound : {X : Type 0} (s : Symbol) (p : Read X) (f : X → List Form) → Exact p f Anything → (n : ℕ) (tokens rest : List Spanned) (xs : List X) → repeated s p n tokens ≡ Some (xs, rest) → Begins (flat_map f xs) tokens rest
-unfolding repeated
-repeated_sound {X = X} s p f reads zero tokens rest xs e =
-    subst (λ (z : List X × List Spanned). Begins (flat_map f z.0) tokens z.1) (some_is ([], tokens) (xs, rest) e) refl
-repeated_sound {X = X} s p f reads (suc n) tokens rest xs e =
-    elim (either (begins s tokens) (p tokens >>= λ x. repeated s p n x.1 >>= λ ys. Some (x.0 ∷ ys.0, ys.1)) (Some ([], tokens)) (Some (xs, rest)) e) [
-      | inl h ↦
-          let a = bind_some (p tokens) (λ x. repeated s p n x.1 >>= λ ys. Some (x.0 ∷ ys.0, ys.1)) (xs, rest) h.1 in
-          let b = bind_some (repeated s p n a.0.1) (λ ys. Some (a.0.0 ∷ ys.0, ys.1)) (xs, rest) a.2 in
-          let made_is : (a.0.0 ∷ b.0.0, b.0.1) ≡ (xs, rest) = some_is (a.0.0 ∷ b.0.0, b.0.1) (xs, rest) b.2 in
-          subst (λ (z : List X × List Spanned). Begins (flat_map f z.0) tokens z.1) made_is
-          (Begins-append (f a.0.0) (flat_map f b.0.0) tokens a.0.1 b.0.1 (reads.sound tokens a.0.1 a.0.0 a.1) (repeated_sound s p f reads n a.0.1 b.0.1 b.0.0 b.1))
-      | inr h ↦ subst (λ (z : List X × List Spanned). Begins (flat_map f z.0) tokens z.1) (some_is ([], tokens) (xs, rest) h.1) refl
-    ]
-
-repeated_complete : {X : Type 0} (s : Symbol) (p : Read X) (f : X → List Form) → Exact p f Anything → ((x : X) (tokens rest : List Spanned) → Begins (f x) tokens rest → begins s tokens ≡ true)
-    → (xs : List X) (n : ℕ) (tokens rest : List Spanned) → length xs ≤ n → Begins (flat_map f xs) tokens rest → begins s rest ≡ false → repeated s p n tokens ≡ Some (xs, rest)
-repeated_complete s p f reads first [] n tokens rest le h over =
-    ap (repeated s p n) h ∙ stop s p n rest over
-repeated_complete s p f reads first (x ∷ xs) zero tokens rest le h over = absurd (omega arith)
-repeated_complete s p f reads first (x ∷ xs) (suc n) tokens rest le h over =
-    let a = Begins-split (f x) (flat_map f xs) tokens rest h in
-    let one : p tokens ≡ Some (x, a.0) = reads.complete tokens a.0 x a.1 tt in
-    let two : repeated s p n a.0 ≡ Some (xs, rest) = repeated_complete s p f reads first xs n a.0 rest (omega arith) a.2 over in
-    turn s p n tokens (first x tokens a.0 a.1) ∙ rw (one, two) refl
-
-fits : {X : Type 0} (f : X → List Form) → ((x : X) → 1 ≤ length (f x)) → (xs : List X) (tokens rest : List Spanned) → Begins (flat_map f xs) tokens rest → length xs ≤ length tokens
-fits f some_form [] tokens rest h = omega arith
-fits f some_form (x ∷ xs) tokens rest h =
-    let a = Begins-split (f x) (flat_map f xs) tokens rest h in
-    let more = fits f some_form xs a.0 rest a.2 in
-    omega (arith, Begins-length (f x) tokens a.0 a.1, some_form x)
-
-opens_once : (fs : List Form) (first : Token) → opening fs ≡ Some first → 1 ≤ length fs
-opens_once [] first o = absurd cc
-opens_once (f ∷ fs) first o = omega arith
-
-many_exact : {X : Type 0} {p : Read X} {f : X → List Form} (s : Symbol) → Exact p f Anything → ((x : X) → opening (f x) ≡ Some (shown s)) → Exact (many s p) (λ xs. flat_map f xs) (EndsAt s)
-unfolding many
-many_exact {X = X} {p = p} {f = f} s reads opens =
-    let first : (x : X) (tokens rest : List Spanned) → Begins (f x) tokens rest → begins s tokens ≡ true = λ x tokens rest h. begins_by s (f x) (shown s) true tokens rest (opens x) (is_symbol-shown s) h in
-    record {
-      sound = λ tokens rest xs e. repeated_sound s p f reads (length tokens) tokens rest xs e;
-      complete = λ tokens rest xs h over. repeated_complete s p f reads first xs (length tokens) tokens rest (fits f (λ x. opens_once (f x) (shown s) (opens x)) xs tokens rest h) h over;
+repeats : (p : ℕ) {rest : List Symbol} {kinds choices : List ℕ} → Derives GRAMMAR (symbol.Many p ∷ rest) kinds choices → Repeats p rest kinds choices
+repeats p {rest = rest} {kinds = kinds} (chosen {choices = cs} _ c way w d) = by c w
+  where
+    by : (c : ℕ) → slice_get ([] ∷ (symbol.Part p ∷ symbol.Many p ∷ []) ∷ []) c ≡ Some way → Repeats p rest kinds (c ∷ cs)
+    by zero w = record {
+      ends = λ e. subst (λ (x : List Symbol). Derives GRAMMAR (x ++ rest) kinds cs) (sym (some_is [] way w)) d;
+      more = λ e. absurd cc;
+      left = omega arith;
     }
+    by (suc zero) w = record {
+      ends = λ e. absurd cc;
+      more = λ e. subst (λ (x : List Symbol). Derives GRAMMAR (x ++ rest) kinds cs) (sym (some_is (symbol.Part p ∷ symbol.Many p ∷ []) way w)) d;
+      left = omega arith;
+    }
+    by (suc (suc c)) w = absurd cc
+
+after_less : (choices : List ℕ) (n : ℕ) → 0 < length choices → length choices ≤ suc n → length (after choices) ≤ n
+after_less [] n lt le = absurd (omega arith)
+after_less (c ∷ cs) n lt le = omega arith
+
+module _ {X : Type 0} (p : ℕ) (take_one : Take X) (forms : X → List Form) (one : Reads (symbol.Part p) take_one forms) where
+  -- by the number of turns
+  turns_begin : (n : ℕ) (rest : List Symbol) (tokens : List Spanned) (choices : List ℕ) → length choices ≤ n → Derives GRAMMAR (symbol.Many p ∷ rest) (kinds_of tokens) choices
+      → Begins (flat_map forms (repeated take_one n choices tokens).0) tokens (repeated take_one n choices tokens).2 × Derives GRAMMAR rest (kinds_of (repeated take_one n choices tokens).2) (repeated take_one n choices tokens).1
+  turns_begin zero rest tokens choices le d = let r = repeats p d in let l = r.left in absurd (omega arith)
+  turns_begin (suc n) rest tokens choices le d = by (goes_on choices) refl (λ cs ts h e. turns_begin n rest ts cs h e)
+    where
+      by : (b : Bool) → goes_on choices ≡ b
+          → ((cs : List ℕ) (ts : List Spanned) → length cs ≤ n → Derives GRAMMAR (symbol.Many p ∷ rest) (kinds_of ts) cs
+          → Begins (flat_map forms (repeated take_one n cs ts).0) ts (repeated take_one n cs ts).2 × Derives GRAMMAR rest (kinds_of (repeated take_one n cs ts).2) (repeated take_one n cs ts).1)
+          → Begins (flat_map forms (repeated take_one (suc n) choices tokens).0) tokens (repeated take_one (suc n) choices tokens).2 × Derives GRAMMAR rest (kinds_of (repeated take_one (suc n) choices tokens).2) (repeated take_one (suc n) choices tokens).1
+      by false e go =
+          subst (λ (z : List X × List ℕ × List Spanned). Begins (flat_map forms z.0) tokens z.2 × Derives GRAMMAR rest (kinds_of z.2) z.1) (sym (stop take_one n choices tokens e))
+          (refl, (repeats p d).ends e)
+      by true e go =
+          let inside = (repeats p d).more e in
+          let x = take_one (after choices) tokens in
+          let front = one.begins (symbol.Many p ∷ rest) tokens (after choices) inside in
+          let behind_it = one.goes_on (symbol.Many p ∷ rest) tokens (after choices) inside in
+          let less = after_less choices n (repeats p d).left le in
+          let short = one.shorter tokens (after choices) in
+          let others = go x.1 x.2 (omega arith) behind_it in
+          subst (λ (z : List X × List ℕ × List Spanned). Begins (flat_map forms z.0) tokens z.2 × Derives GRAMMAR rest (kinds_of z.2) z.1) (sym (turn take_one n choices tokens e))
+          (Begins-append (forms x.0) (flat_map forms (repeated take_one n x.1 x.2).0) tokens x.2 (repeated take_one n x.1 x.2).2 front others.0, others.1)
+
+  turns_shorter : (n : ℕ) (tokens : List Spanned) (choices : List ℕ) → length (repeated take_one n choices tokens).1 ≤ length choices
+  unfolding repeated
+  turns_shorter zero tokens choices = omega arith
+  turns_shorter (suc n) tokens choices = by (goes_on choices) refl (λ cs ts. turns_shorter n ts cs)
+    where
+      by : (b : Bool) → goes_on choices ≡ b → ((cs : List ℕ) (ts : List Spanned) → length (repeated take_one n cs ts).1 ≤ length cs) → length (repeated take_one (suc n) choices tokens).1 ≤ length choices
+      by false e go = subst (λ (z : List X × List ℕ × List Spanned). length z.1 ≤ length choices) (sym (stop take_one n choices tokens e)) (after_shorter choices)
+      by true e go =
+          let x = take_one (after choices) tokens in
+          let short = one.shorter tokens (after choices) in
+          let rest_short = go x.1 x.2 in
+          let first = after_shorter choices in
+          subst (λ (z : List X × List ℕ × List Spanned). length z.1 ≤ length choices) (sym (turn take_one n choices tokens e)) (omega arith)
+
+  many_reads : Reads (symbol.Many p) (many take_one) (λ xs. flat_map forms xs)
+  unfolding many
+  many_reads = record {
+    begins = λ rest tokens choices d. (turns_begin (length choices) rest tokens choices (omega arith) d).0;
+    goes_on = λ rest tokens choices d. (turns_begin (length choices) rest tokens choices (omega arith) d).1;
+    shorter = λ tokens choices. turns_shorter (length choices) tokens choices;
+  }
 
 -- ---- the productions
 
-abbrev start_keyword : Keyword → Place → List Form
-start_keyword word place = ReservedAt word place ∷ Sign Semicolon ∷ []
+-- what a production has to show
+abbrev Reading : {X : Type 0} → List Symbol → (X × List ℕ × List Spanned) → (X → List Form) → List Spanned → Type 0
+Reading rest made forms tokens = Begins (forms made.0) tokens made.2 × Derives GRAMMAR rest (kinds_of made.2) made.1
 
-closing_exact : (word : Keyword) → Exact (closing_at word) (start_keyword word) Anything
-unfolding closing_at
-closing_exact word =
-    made_exact (λ (x : Place × Unit {0}). x.0) (then_exact (keyword_exact word) (passed_exact (symbol.Mark Semicolon)))
-    (λ x tokens rest h. h) (λ place tokens rest h. ((place, tt), refl, h))
-
-ending_exact : (word : Keyword) → Exact (ending_at word) (λ _. Reserved word ∷ Sign Semicolon ∷ []) Anything
-unfolding ending_at
-ending_exact word =
-    made_exact (λ (x : Place). tt) (closing_exact word)
-    (λ x tokens rest h. (h.0, h.1, h.2, h.3.0, h.4)) (λ y tokens rest h. (h.0.place, refl, (h.0, h.1, h.2, (h.3, refl), h.4)))
-
-heading_exact : (word : Keyword) → Exact (heading_at word) (λ x. ReservedAt word x.0 ∷ Named x.1 ∷ Sign Semicolon ∷ []) Anything
-unfolding heading_at
-heading_exact word =
-    made_exact (λ (x : (Place × Ident) × Unit {0}). x.0) (then_exact (then_exact (keyword_exact word) name_exact) (passed_exact (symbol.Mark Semicolon)))
-    (λ x tokens rest h. h) (λ x tokens rest h. ((x, tt), refl, h))
-
-title_exact : (word : Keyword) → Exact (title_at word) (λ name. Reserved word ∷ Named name ∷ Sign Semicolon ∷ []) Anything
-unfolding title_at
-title_exact word =
-    made_exact (λ (x : Place × Ident). x.1) (heading_exact word)
-    (λ x tokens rest h. (h.0, h.1, h.2, h.3.0, h.4)) (λ name tokens rest h. ((h.0.place, name), refl, (h.0, h.1, h.2, (h.3, refl), h.4)))
-
-next_exact : Exact next_at next_forms Anything
+next_shows : (rest : List Symbol) (tokens : List Spanned) (choices : List ℕ) → Derives GRAMMAR (symbol.Part 4 ∷ rest) (kinds_of tokens) choices → Reading rest (next_at choices tokens) next_forms tokens
 unfolding next_at
-next_exact =
-    made_exact (λ (x : Place × Ident). record { place = x.0; state = x.1 }) (heading_exact keyword.Nextstate)
-    (λ x tokens rest h. h) (λ next tokens rest h. ((next.place, next.state), refl, h))
+next_shows rest tokens choices d =
+    let a = step_keyword 6 keyword.Nextstate (omega arith) refl _ tokens _ (part_is 4 _ refl d) in
+    let b = step_name _ (behind tokens) _ a.goes_on in
+    let c = step_sign 14 Semicolon (omega arith) refl rest (behind (behind tokens)) _ b.goes_on in
+    ((a.first, behind tokens, a.is, a.so, (b.first, behind (behind tokens), b.is, b.so, (c.first, behind (behind (behind tokens)), c.is, c.so, refl))), c.goes_on)
 
-outputs_exact : Exact outputs_at (λ outputs. flat_map output_forms outputs) (EndsAt (symbol.Keyword keyword.Output))
-unfolding outputs_at
-outputs_exact = many_exact (symbol.Keyword keyword.Output) (title_exact keyword.Output) (λ x. refl)
+next_reads : Reads (symbol.Part 4) next_at next_forms
+unfolding next_at
+next_reads = record {
+  begins = λ rest tokens choices d. (next_shows rest tokens choices d).0;
+  goes_on = λ rest tokens choices d. (next_shows rest tokens choices d).1;
+  shorter = λ tokens choices. after_shorter choices;
+}
 
-input_exact : Exact input_at input_forms Anything
-unfolding input_at same_keyword
-input_exact =
-    made_exact (λ (x : ((Place × Ident) × List Ident) × NextText). record { place = x.0.0.0; signal = x.0.0.1; outputs = x.0.1; next = x.1 })
-    (both_exact (then_exact (heading_exact keyword.Input) outputs_exact) next_exact
-    (λ next tokens rest h. begins_by (symbol.Keyword keyword.Output) (next_forms next) (token.Keyword keyword.Nextstate) false tokens rest refl refl h))
-    (λ x tokens rest h. h) (λ input tokens rest h. ((((input.place, input.signal), input.outputs), input.next), refl, h))
+output_shows : (rest : List Symbol) (tokens : List Spanned) (choices : List ℕ) → Derives GRAMMAR (symbol.Part 7 ∷ rest) (kinds_of tokens) choices → Reading rest (output_at choices tokens) output_forms tokens
+unfolding output_at
+output_shows rest tokens choices d =
+    let a = step_reserved 10 keyword.Output (omega arith) refl _ tokens _ (part_is 7 _ refl d) in
+    let b = step_name _ (behind tokens) _ a.goes_on in
+    let c = step_sign 14 Semicolon (omega arith) refl rest (behind (behind tokens)) _ b.goes_on in
+    ((a.first, behind tokens, a.is, a.so, (b.first, behind (behind tokens), b.is, b.so, (c.first, behind (behind (behind tokens)), c.is, c.so, refl))), c.goes_on)
 
-inputs_exact : Exact inputs_at (λ inputs. flat_map input_forms inputs) (EndsAt (symbol.Keyword keyword.Input))
-unfolding inputs_at
-inputs_exact = many_exact (symbol.Keyword keyword.Input) input_exact (λ x. refl)
+output_reads : Reads (symbol.Part 7) output_at output_forms
+unfolding output_at
+output_reads = record {
+  begins = λ rest tokens choices d. (output_shows rest tokens choices d).0;
+  goes_on = λ rest tokens choices d. (output_shows rest tokens choices d).1;
+  shorter = λ tokens choices. after_shorter choices;
+}
 
-state_exact : Exact state_at state_forms Anything
-unfolding state_at same_keyword
-state_exact =
-    made_exact (λ (x : (Ident × List InputText) × Unit {0}). record { name = x.0.0; inputs = x.0.1 })
-    (both_exact (then_exact (title_exact keyword.State) inputs_exact) (ending_exact keyword.Endstate)
-    (λ y tokens rest h. begins_by (symbol.Keyword keyword.Input) (Reserved keyword.Endstate ∷ Sign Semicolon ∷ []) (token.Keyword keyword.Endstate) false tokens rest refl refl h))
-    (λ x tokens rest h. h) (λ state tokens rest h. (((state.name, state.inputs), tt), refl, h))
+outputs_read : Reads (symbol.Many 7) (many output_at) (λ xs. flat_map output_forms xs)
+outputs_read = many_reads 7 output_at output_forms output_reads
 
-states_exact : Exact states_at (λ states. flat_map state_forms states) (EndsAt (symbol.Keyword keyword.State))
-unfolding states_at
-states_exact = many_exact (symbol.Keyword keyword.State) state_exact (λ x. refl)
+input_shows : (rest : List Symbol) (tokens : List Spanned) (choices : List ℕ) → Derives GRAMMAR (symbol.Part 6 ∷ rest) (kinds_of tokens) choices → Reading rest (input_at choices tokens) input_forms tokens
+unfolding input_at
+input_shows rest tokens choices d =
+    let a = step_keyword 9 keyword.Input (omega arith) refl _ tokens _ (part_is 6 _ refl d) in
+    let b = step_name _ (behind tokens) _ a.goes_on in
+    let c = step_sign 14 Semicolon (omega arith) refl _ (behind (behind tokens)) _ b.goes_on in
+    let outs = many output_at (after choices) (behind (behind (behind tokens))) in
+    let o = outputs_read.begins _ (behind (behind (behind tokens))) (after choices) c.goes_on in
+    let n = next_shows rest outs.2 outs.1 (outputs_read.goes_on _ (behind (behind (behind tokens))) (after choices) c.goes_on) in
+    ((a.first, behind tokens, a.is, a.so, (b.first, behind (behind tokens), b.is, b.so, (c.first, behind (behind (behind tokens)), c.is, c.so, Begins-append (flat_map output_forms outs.0) (next_forms (next_at outs.1 outs.2).0) _ outs.2 _ o n.0))), n.1)
 
-further_exact : Exact further_at further_forms Anything
+input_reads : Reads (symbol.Part 6) input_at input_forms
+unfolding input_at
+input_reads = record {
+  begins = λ rest tokens choices d. (input_shows rest tokens choices d).0;
+  goes_on = λ rest tokens choices d. (input_shows rest tokens choices d).1;
+  shorter = λ tokens choices.
+      (let outs = many output_at (after choices) (behind (behind (behind tokens))) in
+      let a = after_shorter choices in
+      let b = outputs_read.shorter (behind (behind (behind tokens))) (after choices) in
+      let c = next_reads.shorter outs.2 outs.1 in
+      omega arith);
+}
+
+inputs_read : Reads (symbol.Many 6) (many input_at) (λ xs. flat_map input_forms xs)
+inputs_read = many_reads 6 input_at input_forms input_reads
+
+state_shows : (rest : List Symbol) (tokens : List Spanned) (choices : List ℕ) → Derives GRAMMAR (symbol.Part 5 ∷ rest) (kinds_of tokens) choices → Reading rest (state_at choices tokens) state_forms tokens
+unfolding state_at
+state_shows rest tokens choices d =
+    let a = step_reserved 7 keyword.State (omega arith) refl _ tokens _ (part_is 5 _ refl d) in
+    let b = step_name _ (behind tokens) _ a.goes_on in
+    let c = step_sign 14 Semicolon (omega arith) refl _ (behind (behind tokens)) _ b.goes_on in
+    let ins = many input_at (after choices) (behind (behind (behind tokens))) in
+    let i = inputs_read.begins _ (behind (behind (behind tokens))) (after choices) c.goes_on in
+    let e = step_reserved 8 keyword.Endstate (omega arith) refl _ ins.2 _ (inputs_read.goes_on _ (behind (behind (behind tokens))) (after choices) c.goes_on) in
+    let f = step_sign 14 Semicolon (omega arith) refl rest (behind ins.2) _ e.goes_on in
+    ((a.first, behind tokens, a.is, a.so, (b.first, behind (behind tokens), b.is, b.so, (c.first, behind (behind (behind tokens)), c.is, c.so, Begins-append (flat_map input_forms ins.0) (Reserved keyword.Endstate ∷ Sign Semicolon ∷ []) _ ins.2 _ i ((e.first, behind ins.2, e.is, e.so, (f.first, behind (behind ins.2), f.is, f.so, refl)))))), f.goes_on)
+
+state_reads : Reads (symbol.Part 5) state_at state_forms
+unfolding state_at
+state_reads = record {
+  begins = λ rest tokens choices d. (state_shows rest tokens choices d).0;
+  goes_on = λ rest tokens choices d. (state_shows rest tokens choices d).1;
+  shorter = λ tokens choices.
+      (let a = after_shorter choices in
+      let b = inputs_read.shorter (behind (behind (behind tokens))) (after choices) in
+      omega arith);
+}
+
+states_read : Reads (symbol.Many 5) (many state_at) (λ xs. flat_map state_forms xs)
+states_read = many_reads 5 state_at state_forms state_reads
+
+further_shows : (rest : List Symbol) (tokens : List Spanned) (choices : List ℕ) → Derives GRAMMAR (symbol.Part 2 ∷ rest) (kinds_of tokens) choices → Reading rest (further_at choices tokens) further_forms tokens
 unfolding further_at
-further_exact =
-    made_exact (λ (x : Unit {0} × Ident). x.1) (then_exact (passed_exact (symbol.Mark Comma)) name_exact)
-    (λ x tokens rest h. h) (λ name tokens rest h. ((tt, name), refl, h))
+further_shows rest tokens choices d =
+    let a = step_sign 15 Comma (omega arith) refl _ tokens _ (part_is 2 _ refl d) in
+    let b = step_name rest (behind tokens) _ a.goes_on in
+    ((a.first, behind tokens, a.is, a.so, (b.first, behind (behind tokens), b.is, b.so, refl)), b.goes_on)
 
-furthers_exact : Exact furthers_at (λ others. flat_map further_forms others) (EndsAt (symbol.Mark Comma))
-unfolding furthers_at
-furthers_exact = many_exact (symbol.Mark Comma) further_exact (λ x. refl)
+further_reads : Reads (symbol.Part 2) further_at further_forms
+unfolding further_at
+further_reads = record {
+  begins = λ rest tokens choices d. (further_shows rest tokens choices d).0;
+  goes_on = λ rest tokens choices d. (further_shows rest tokens choices d).1;
+  shorter = λ tokens choices. after_shorter choices;
+}
 
-signal_exact : Exact signal_at signal_forms Anything
-unfolding signal_at same_mark
-signal_exact =
-    made_exact (λ (x : ((Unit {0} × Ident) × List Ident) × Unit {0}). record { first = x.0.0.1; others = x.0.1 })
-    (both_exact (then_exact (then_exact (passed_exact (symbol.Keyword keyword.Signal)) name_exact) furthers_exact) (passed_exact (symbol.Mark Semicolon))
-    (λ y tokens rest h. begins_by (symbol.Mark Comma) (Sign Semicolon ∷ []) (token.Mark Semicolon) false tokens rest refl refl h))
-    (λ x tokens rest h. h) (λ signal tokens rest h. ((((tt, signal.first), signal.others), tt), refl, h))
+furthers_read : Reads (symbol.Many 2) (many further_at) (λ xs. flat_map further_forms xs)
+furthers_read = many_reads 2 further_at further_forms further_reads
 
-signals_exact : Exact signals_at (λ signals. flat_map signal_forms signals) (EndsAt (symbol.Keyword keyword.Signal))
-unfolding signals_at
-signals_exact = many_exact (symbol.Keyword keyword.Signal) signal_exact (λ x. refl)
+signal_shows : (rest : List Symbol) (tokens : List Spanned) (choices : List ℕ) → Derives GRAMMAR (symbol.Part 1 ∷ rest) (kinds_of tokens) choices → Reading rest (signal_at choices tokens) signal_forms tokens
+unfolding signal_at
+signal_shows rest tokens choices d =
+    let a = step_reserved 2 keyword.Signal (omega arith) refl _ tokens _ (part_is 1 _ refl d) in
+    let b = step_name _ (behind tokens) _ a.goes_on in
+    let others = many further_at (after choices) (behind (behind tokens)) in
+    let o = furthers_read.begins _ (behind (behind tokens)) (after choices) b.goes_on in
+    let c = step_sign 14 Semicolon (omega arith) refl rest others.2 _ (furthers_read.goes_on _ (behind (behind tokens)) (after choices) b.goes_on) in
+    ((a.first, behind tokens, a.is, a.so, (b.first, behind (behind tokens), b.is, b.so, Begins-append (flat_map further_forms others.0) (Sign Semicolon ∷ []) _ others.2 _ o ((c.first, behind others.2, c.is, c.so, refl)))), c.goes_on)
 
-start_exact : Exact start_at start_forms Anything
+signal_reads : Reads (symbol.Part 1) signal_at signal_forms
+unfolding signal_at
+signal_reads = record {
+  begins = λ rest tokens choices d. (signal_shows rest tokens choices d).0;
+  goes_on = λ rest tokens choices d. (signal_shows rest tokens choices d).1;
+  shorter = λ tokens choices.
+      (let a = after_shorter choices in
+      let b = furthers_read.shorter (behind (behind tokens)) (after choices) in
+      omega arith);
+}
+
+signals_read : Reads (symbol.Many 1) (many signal_at) (λ xs. flat_map signal_forms xs)
+signals_read = many_reads 1 signal_at signal_forms signal_reads
+
+start_shows : (rest : List Symbol) (tokens : List Spanned) (choices : List ℕ) → Derives GRAMMAR (symbol.Part 3 ∷ rest) (kinds_of tokens) choices → Reading rest (start_at choices tokens) start_forms tokens
 unfolding start_at
-start_exact =
-    made_exact (λ (x : Place × NextText). record { place = x.0; next = x.1 }) (then_exact (closing_exact keyword.Start) next_exact)
-    (λ x tokens rest h. h) (λ start tokens rest h. ((start.place, start.next), refl, h))
-
-closings_exact : Exact closings_at (λ _. closing_forms) Anything
-unfolding closings_at
-closings_exact =
-    made_exact (λ (x : ((Unit {0} × Unit {0}) × Unit {0}) × Unit {0}). tt)
-    (then_exact (then_exact (then_exact (ending_exact keyword.Endprocess) (ending_exact keyword.Endblock)) (ending_exact keyword.Endsystem)) (passed_exact symbol.End))
-    (λ x tokens rest h. h) (λ x tokens rest h. ((((tt, tt), tt), tt), refl, h))
-
-abbrev Body : Type 0
-Body = Ident × Ident × StartText × List StateText
-
-abbrev body_forms : Body → List Form
-body_forms x = Reserved keyword.Block ∷ Named x.0 ∷ Sign Semicolon ∷ Reserved keyword.Process ∷ Named x.1 ∷ Sign Semicolon ∷ (start_forms x.2 ++ flat_map state_forms x.3 ++ closing_forms)
-
-body_exact : Exact body_at body_forms Anything
-unfolding body_at same_keyword
-body_exact =
-    made_exact (λ (x : (Ident × Ident) × (StartText × (List StateText × Unit {0}))). (x.0.0, x.0.1, x.1.0, x.1.1.0))
-    (then_exact (then_exact (title_exact keyword.Block) (title_exact keyword.Process))
-    (then_exact start_exact (both_exact states_exact closings_exact
-    (λ y tokens rest h. begins_by (symbol.Keyword keyword.State) closing_forms (token.Keyword keyword.Endprocess) false tokens rest refl refl h))))
-    (λ x tokens rest h. h) (λ x tokens rest h. (((x.0, x.1), (x.2, (x.3, tt))), refl, h))
-
-system_exact : Exact system_at system_forms Anything
-unfolding system_at same_keyword
-system_exact =
-    made_exact (λ (x : Ident × (List SignalText × Body)). record { system = x.0; signals = x.1.0; block = x.1.1.0; process = x.1.1.1; start = x.1.1.2; states = x.1.1.3 })
-    (then_exact (title_exact keyword.System) (both_exact signals_exact body_exact
-    (λ body tokens rest h. begins_by (symbol.Keyword keyword.Signal) (body_forms body) (token.Keyword keyword.Block) false tokens rest refl refl h)))
-    (λ x tokens rest h. h) (λ s tokens rest h. ((s.system, (s.signals, (s.block, s.process, s.start, s.states))), refl, h))
+start_shows rest tokens choices d =
+    let a = step_keyword 5 keyword.Start (omega arith) refl _ tokens _ (part_is 3 _ refl d) in
+    let b = step_sign 14 Semicolon (omega arith) refl _ (behind tokens) _ a.goes_on in
+    let n = next_shows rest (behind (behind tokens)) (after choices) b.goes_on in
+    ((a.first, behind tokens, a.is, a.so, (b.first, behind (behind tokens), b.is, b.so, n.0)), n.1)
 
 -- ---- the whole file
 
-ended_is : (found system : SystemText) (rest : List Spanned) → ended found rest ≡ Some system → (found ≡ system) × (rest ≡ [])
-ended_is found system [] e = (some_is found system e, refl)
-ended_is found system (t ∷ ts) e = absurd cc
+no_more : {ts : List ℕ} {choices : List ℕ} → Derives GRAMMAR [] ts choices → ts ≡ []
+no_more nothing = refl
 
-pub sentence_spells : (tokens : List Spanned) (system : SystemText) → sentence tokens ≡ Some system → Spells system tokens
-unfolding sentence
-sentence_spells tokens system e =
-    let a = bind_some (system_at tokens) (λ x. ended x.0 x.1) system e in
-    let b = ended_is a.0.0 system a.0.1 a.2 in
-    subst (λ (s : SystemText). Spells s tokens) b.0 (subst (λ (rest : List Spanned). Begins (system_forms a.0.0) tokens rest) b.1 (system_exact.sound tokens a.0.1 a.0.0 a.1))
+none_left : (tokens : List Spanned) → kinds_of tokens ≡ [] → tokens ≡ []
+none_left [] e = refl
+none_left (t ∷ ts) e = absurd cc
 
-pub spelt_is_sentence : (tokens : List Spanned) (system : SystemText) → Spells system tokens → sentence tokens ≡ Some system
-unfolding sentence
-spelt_is_sentence tokens system h =
-    let one : system_at tokens ≡ Some (system, []) = system_exact.complete tokens [] system h tt in
-    rw one refl
+system_shows : (tokens : List Spanned) (choices : List ℕ) → Derived GRAMMAR LAST (kinds_of tokens) choices → Begins (system_forms (tree_of choices tokens)) tokens []
+unfolding system_at
+system_shows tokens choices d =
+    let a = step_reserved 1 keyword.System (omega arith) refl _ tokens _ (part_is 0 _ refl d) in
+    let b = step_name _ (behind tokens) _ a.goes_on in
+    let c = step_sign 14 Semicolon (omega arith) refl _ (behind (behind tokens)) _ b.goes_on in
+    let sigs = many signal_at (after choices) (behind (behind (behind tokens))) in
+    let s = signals_read.begins _ (behind (behind (behind tokens))) (after choices) c.goes_on in
+    let block = step_reserved 3 keyword.Block (omega arith) refl _ sigs.2 _ (signals_read.goes_on _ (behind (behind (behind tokens))) (after choices) c.goes_on) in
+    let block_name = step_name _ (behind sigs.2) _ block.goes_on in
+    let block_end = step_sign 14 Semicolon (omega arith) refl _ (behind (behind sigs.2)) _ block_name.goes_on in
+    let process = behind (behind (behind sigs.2)) in
+    let proc = step_reserved 4 keyword.Process (omega arith) refl _ process _ block_end.goes_on in
+    let proc_name = step_name _ (behind process) _ proc.goes_on in
+    let proc_end = step_sign 14 Semicolon (omega arith) refl _ (behind (behind process)) _ proc_name.goes_on in
+    let start = start_at sigs.1 (behind (behind (behind process))) in
+    let begun = start_shows _ (behind (behind (behind process))) sigs.1 proc_end.goes_on in
+    let sts = many state_at start.1 start.2 in
+    let states = states_read.begins _ start.2 start.1 begun.1 in
+    let e1 = step_reserved 11 keyword.Endprocess (omega arith) refl _ sts.2 _ (states_read.goes_on _ start.2 start.1 begun.1) in
+    let e2 = step_sign 14 Semicolon (omega arith) refl _ (behind sts.2) _ e1.goes_on in
+    let t2 = behind (behind sts.2) in
+    let e3 = step_reserved 12 keyword.Endblock (omega arith) refl _ t2 _ e2.goes_on in
+    let e4 = step_sign 14 Semicolon (omega arith) refl _ (behind t2) _ e3.goes_on in
+    let t4 = behind (behind t2) in
+    let e5 = step_reserved 13 keyword.Endsystem (omega arith) refl _ t4 _ e4.goes_on in
+    let e6 = step_sign 14 Semicolon (omega arith) refl _ (behind t4) _ e5.goes_on in
+    let t6 = behind (behind t4) in
+    let e7 = step_last [] t6 _ e6.goes_on in
+    let none = none_left (behind t6) (no_more e7.goes_on) in
+    let closing : Begins closing_forms sts.2 [] = (e1.first, behind sts.2, e1.is, e1.so, (e2.first, behind (behind sts.2), e2.is, e2.so, (e3.first, behind t2, e3.is, e3.so, (e4.first, behind (behind t2), e4.is, e4.so, (e5.first, behind t4, e5.is, e5.so, (e6.first, behind (behind t4), e6.is, e6.so, (e7.first, behind t6, e7.is, e7.so, none))))))) in
+    let body = Begins-append (start_forms start.0 ++ flat_map state_forms sts.0) closing_forms (behind (behind (behind process))) sts.2 []
+    (Begins-append (start_forms start.0) (flat_map state_forms sts.0) (behind (behind (behind process))) start.2 sts.2 begun.0 states) closing in (
+      a.first,
+      behind tokens,
+      a.is,
+      a.so,
+      (
+        b.first,
+        behind (behind tokens),
+        b.is,
+        b.so,
+        (
+          c.first,
+          behind (behind (behind tokens)),
+          c.is,
+          c.so,
+          Begins-append (flat_map signal_forms sigs.0)
+              (Reserved keyword.Block ∷ Named (name_in (behind sigs.2)) ∷ Sign Semicolon ∷ Reserved keyword.Process ∷ Named (name_in (behind process)) ∷ Sign Semicolon ∷ (start_forms start.0 ++ flat_map state_forms sts.0 ++ closing_forms))
+              _ sigs.2 [] s ((block.first, behind sigs.2, block.is, block.so, (block_name.first, behind (behind sigs.2), block_name.is, block_name.so, (block_end.first, behind (behind (behind sigs.2)), block_end.is, block_end.so, (proc.first, behind process, proc.is, proc.so, (proc_name.first, behind (behind process), proc_name.is, proc_name.so, (proc_end.first, behind (behind (behind process)), proc_end.is, proc_end.so, body))))))),
+        ),
+      ),
+    )
 
-pub is_found : (r : Result SystemText ParseError) (tokens : List Spanned) → Gives (λ x. x) r (sentence tokens) → IfOk r (λ system. Spells system tokens)
-is_found (Ok system) tokens given = sentence_spells tokens system given
-is_found (Err e) tokens given = tt
+-- the tokens of a sentence are the forms of its tree
+pub spelt_forms : (system : SystemText) (tokens : List Spanned) → Spells system tokens → Begins (system_forms system) tokens []
+spelt_forms system tokens s = subst (λ (x : SystemText). Begins (system_forms x) tokens []) (sym s.tree) (system_shows tokens s.choices s.derived)
 
-pub is_only : (r : Result SystemText ParseError) (tokens : List Spanned) → Gives (λ x. x) r (sentence tokens) → IfOk r (λ system. (other : SystemText) → Spells other tokens → other ≡ system)
-is_only (Ok system) tokens given = λ other h. some_is other system (sym (spelt_is_sentence tokens other h) ∙ given)
-is_only (Err e) tokens given = tt
-
-refused : (e : ParseError) (tokens : List Spanned) → e ≡ NoSentence → Gives {X = SystemText} (λ x. x) (Err e) (sentence tokens) → sentence tokens ≡ None
-refused NoSentence tokens is given = given
-refused (NoMemory met) tokens is given = absurd cc
-
-pub is_none : (r : Result SystemText ParseError) (tokens : List Spanned) → Gives (λ x. x) r (sentence tokens) → IsErrOf r NoSentence → (system : SystemText) → Spells system tokens → ⊥
-is_none (Ok s) tokens given is system h = absurd (search rules)
-is_none (Err e) tokens given is system h =
-    let none : sentence tokens ≡ None = refused e tokens (search rules) given in
-    let found = spelt_is_sentence tokens system h in
-    absurd cc
+-- tokens have one tree at most
+pub one_tree : (a b : SystemText) (tokens : List Spanned) → Spells a tokens → Spells b tokens → a ≡ b
+one_tree a b tokens x y =
+    x.tree ∙ ap (λ (cs : List ℕ). tree_of cs tokens) (one_derivation GRAMMAR PARTS LAST refl (kinds_of tokens) x.choices y.choices x.derived y.derived) ∙ sym y.tree

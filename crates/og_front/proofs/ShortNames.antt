@@ -18,6 +18,7 @@ use Rattle.og_front.specs.declared.syntax.InputText.{InputText}
 use Rattle.og_front.specs.Grammar.{Form, Reserved, ReservedAt, Sign, Named, Last, Begins, next_forms, output_forms, input_forms, state_forms, further_forms, signal_forms, start_forms, closing_forms, system_forms, Spells}
 use Rattle.og_front.specs.Names.{declared_by, input_names, state_names, all_names, IsShort, AreShort, HasShortNames}
 use Rattle.og_front.specs.Rules.{signal_names, header_names}
+use Rattle.og_front.proofs.Sentences.{spelt_forms}
 
 -- ---- parts of a list of which each element is so
 
@@ -168,4 +169,4 @@ begun_short file bytes at (Last ∷ forms) tokens rest h placed =
 -- a name token has at most 64 bytes, so that each name of the tree is short
 pub short_spelt : (system : SystemText) (tokens : List Spanned) (file : ℕ) (bytes : List ℕ) (at : ℕ) → Spells system tokens → AreInPlace file bytes at tokens → HasShortNames system
 short_spelt system tokens file bytes at spells placed =
-    record { each = subst (AllByRecursion IsShort) (named_system system) (begun_short file bytes at (system_forms system) tokens [] spells placed) }
+    record { each = subst (AllByRecursion IsShort) (named_system system) (begun_short file bytes at (system_forms system) tokens [] (spelt_forms system tokens spells) placed) }

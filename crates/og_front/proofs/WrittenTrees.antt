@@ -21,6 +21,7 @@ use Rattle.og_model.specs.WellSorted.{is_place}
 use Rattle.og_front.specs.declared.syntax.SystemText.{SystemText}
 use Rattle.og_front.specs.Grammar.{Form, Reserved, ReservedAt, Sign, Named, Last, Begins, system_forms, Spells}
 use Rattle.og_front.specs.Written.{IsWrittenForm, IsWrittenTree}
+use Rattle.og_front.proofs.Sentences.{spelt_forms}
 use Rattle.og_names.proofs.Truths.{both_first as first, both_second as second, both_true as both}
 
 -- ---- letters
@@ -163,4 +164,4 @@ begun_written bytes at (Last ∷ forms) tokens rest h placed =
 
 -- the tree of tokens that stand in their places is such as a text has
 pub written_spelt : (system : SystemText) (tokens : List Spanned) (bytes : List ℕ) (at : ℕ) → Spells system tokens → AreInPlace 0 bytes at tokens → IsWrittenTree system
-written_spelt system tokens bytes at spells placed = record { each = begun_written bytes at (system_forms system) tokens [] spells placed }
+written_spelt system tokens bytes at spells placed = record { each = begun_written bytes at (system_forms system) tokens [] (spelt_forms system tokens spells) placed }

@@ -1,6 +1,6 @@
--- The grammar of a model file (Z.106): each production says of which tokens its tree consists, in their order. A file is a
--- sentence where its tokens are those of a tree, the end of the file last.
-use Rattle.std.specs.Prelude.{◌≡◌, List, [], ◌∷◌, ◌++◌}
+-- The grammar of a model file (Z.106) is the table GRAMMAR of the source: a file is a sentence where its tokens have a
+-- derivation there, the end of the file last, and its tree is a function of it. The forms say of which tokens a tree consists.
+use Rattle.std.specs.Prelude.{◌≡◌, ℕ, List, [], ◌∷◌, ◌++◌}
 use Rattle.std.specs.List.{flat_map}
 use Rattle.og_base.specs.declared.Place.{Place}
 use Rattle.og_lexer.specs.declared.Keyword.{Keyword}
@@ -9,6 +9,9 @@ use Rattle.og_lexer.specs.declared.Mark.{Mark}
 use Rattle.og_lexer.specs.declared.Mark.TheVariants.{Semicolon, Comma}
 use Rattle.og_lexer.specs.declared.Spanned.{Spanned}
 use Rattle.og_lexer.specs.declared.Token.TheVariants as token
+use Rattle.og_grammar.specs.Sentence.{Spells as Derived}
+use Rattle.og_front.specs.declared.grammar.TheConstants.{GRAMMAR, LAST}
+use Rattle.og_front.specs.Reading.{kinds_of, tree_of}
 use Rattle.og_front.specs.declared.syntax.Ident.{Ident}
 use Rattle.og_front.specs.declared.syntax.SystemText.{SystemText}
 use Rattle.og_front.specs.declared.syntax.SignalText.{SignalText}
@@ -77,5 +80,7 @@ system_forms system =
     ++ flat_map state_forms system.states ++ closing_forms))
 
 -- the tokens are a sentence of the grammar, with this tree
-abbrev pub Spells : SystemText → List Spanned → Type 0
-Spells system tokens = Begins (system_forms system) tokens []
+pub record Spells (system : SystemText) (tokens : List Spanned) : Type 0 where
+  pub choices : List ℕ
+  pub derived : Derived GRAMMAR LAST (kinds_of tokens) choices
+  pub tree : system ≡ tree_of choices tokens

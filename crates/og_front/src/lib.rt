@@ -2,8 +2,11 @@
 #![tactic(auto)]
 
 mod build;
+mod grammar;
+mod kind;
 mod laws;
 mod parse;
+mod part;
 mod rules;
 mod syntax;
 

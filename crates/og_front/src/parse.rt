@@ -1,13 +1,20 @@
-//! The parser: the tokens of a model file as a tree (Z.106, the textual form).
-ghost use Rattle.std.specs.Prelude.{◌≡◌, IfOk, IsErrOf};
+//! The parser: the tokens of a model file as a tree (Z.106, the textual form). The reader of tables finds the derivation,
+//! and the tree is built from its choices and the tokens.
+ghost use Rattle.std.specs.Prelude.{◌≡◌, ℕ, List, IfOk, IsErrOf, length, map};
+ghost use Rattle.og_lexer.specs.declared.Spanned.{Spanned};
+ghost use Rattle.og_grammar.specs.Sentence.{Spells as Derived};
+ghost use Rattle.og_front.specs.declared.grammar.TheConstants.{GRAMMAR, LAST};
 ghost use Rattle.og_front.specs.Grammar.{Spells};
-ghost use Rattle.og_front.specs.Reading.{Gives, IsOutOfMemory, is_symbol, begins, symbol_at, name_at, closing_at, heading_at, title_at, next_at, outputs_at, input_at, inputs_at, state_at, states_at, further_at, furthers_at, signal_at, signals_at, start_at, closings_at, body_at, system_at, sentence};
-ghost use Rattle.og_front.specs.declared.parse.ParseError.TheVariants.{NoMemory as OutOfMemory};
+ghost use Rattle.og_front.specs.declared.parse.ParseError.TheVariants as failed;
+ghost use Rattle.og_front.specs.Reading.{IsOutOfMemory, is_fixed, fixed_place, kind_of, kinds_of, behind, after, place_in, word_in, name_in, goes_on, many, next_at, output_at, input_at, state_at, further_at, signal_at, start_at, system_at, tree_of};
 
+use crate::grammar::{GRAMMAR, LAST, PARTS};
+use crate::kind::FORMS;
 use crate::syntax::{Ident, InputText, NextText, SignalText, StartText, StateText, SystemText};
 use og_base::Place;
+use og_grammar::{Refusal, derive, never_deeper};
 use og_lexer::{Keyword, Mark, Spanned, Token};
-use og_names::NoMemory;
+use og_names::{NoMemory, Word};
 use sqlite_items::Items;
 use std::alloc::{AllocError, Global};
 
@@ -27,16 +34,17 @@ impl From<AllocError> for ParseError {
 }
 
 impl From<NoMemory> for ParseError {
-    ghost from_gives = { λ met error. error ≡ OutOfMemory met };
+    ghost from_gives = { λ met error. error ≡ failed.NoMemory met };
 
     fn from(met: NoMemory) -> ParseError {
         ParseError::NoMemory(met)
     }
 }
 
-/// A token that is fixed but for its place.
+/// The form of a token: a name, or one that is fixed but for its place.
 #[derive(Clone, Copy)]
-enum Symbol {
+pub enum Fixed {
+    Name,
     Keyword(Keyword),
     Mark(Mark),
     End,
@@ -51,29 +59,90 @@ pub fn parse_system(alloc: Global, tokens: &[Spanned]) -> Result<SystemText, Par
     // Tokens that are refused as no sentence are one with no tree.
     ensures none { IsErrOf result ParseError.NoSentence → (system : SystemText) → Spells system tokens.now → ⊥ }
 {
-    whole_system(alloc, tokens)
+    let choices = choices_of(alloc, tokens)?;
+    let (system, _, _) = system_of(alloc, choices.as_slice(), tokens)?;
+    Ok(system)
 }
 
-/// The tree of the tokens, of which none are left over.
-#[tactic(auto, using(crate::proofs::Repeats::not_ended), unfolding(crate::specs::Reading::sentence))]
-fn whole_system(alloc: Global, tokens: &[Spanned]) -> Result<SystemText, ParseError>
-    ensures { Gives (λ x. x) result (sentence tokens.now) }
+/// The choices of the derivation of the tokens.
+fn choices_of(alloc: Global, tokens: &[Spanned]) -> Result<Items<u8>, ParseError>
+    ensures found { IfOk result (λ choices. Derived GRAMMAR LAST (kinds_of tokens.now) choices) }
+    ensures only { IfOk result (λ choices. (other : List ℕ) → Derived GRAMMAR LAST (kinds_of tokens.now) other → other ≡ choices) }
+    ensures none { IsErrOf result ParseError.NoSentence → (other : List ℕ) → Derived GRAMMAR LAST (kinds_of tokens.now) other → ⊥ }
 {
-    let (system, rest) = system_of(alloc, tokens)?;
-    match rest {
-        [] => Ok(system),
-        [_, ..] => Err(ParseError::NoSentence),
+    never_deeper();
+    let kinds = kinds_of(alloc, tokens)?;
+    let kinds = kinds.as_slice();
+    match derive(alloc, &GRAMMAR, &PARTS, LAST, kinds.len(), kinds) {
+        Ok(choices) => Ok(choices),
+        Err(Refusal::NoMemory(met)) => Err(ParseError::NoMemory(NoMemory::from(met))),
+        Err(Refusal::TooDeep(_)) => unreachable!(),
+        Err(Refusal::Wrong(_)) => Err(ParseError::NoSentence),
+        Err(Refusal::CutOff) => Err(ParseError::NoSentence),
     }
 }
 
-/// SYSTEM name ; { signal } and the body.
-#[tactic(auto, unfolding(crate::specs::Reading::system_at))]
-fn system_of(alloc: Global, tokens: &[Spanned]) -> Result<(SystemText, &[Spanned]), ParseError>
-    ensures { Gives (λ x. (x.0, x.1.now)) result (system_at tokens.now) }
+/// The kinds of the tokens.
+fn kinds_of(alloc: Global, tokens: &[Spanned]) -> Result<Vec<u8>, AllocError>
+    ensures { IfOk result (λ kinds. kinds.items ≡ kinds_of tokens.now) }
 {
-    let (system, rest) = title_of(alloc, Keyword::System, tokens)?;
-    let (signals, rest) = signals_of(alloc, rest)?;
-    let ((block, process, start, states), rest) = body_of(alloc, rest)?;
+    tokens
+        .iter()
+        .map(|token| kind_of(&token.token))
+        .collect(alloc)
+}
+
+/// The kind of a token, 255 where the grammar has none.
+fn kind_of(token: &Token) -> u8
+    ensures { result ≡ kind_of token.now }
+{
+    match fixed_place(token) {
+        Some(place) => (place % 256) as u8,
+        None => 255,
+    }
+}
+
+/// The place of the token's form.
+#[tactic(auto, unfolding(crate::specs::Reading::fixed_place))]
+fn fixed_place(token: &Token) -> Option<usize>
+    ensures { result ≡ fixed_place token.now }
+{
+    FORMS.iter().position(|form| is_fixed(*form, token))
+}
+
+/// Whether the token is of this form.
+#[tactic(auto, unfolding(crate::specs::Reading::same_keyword, crate::specs::Reading::same_mark))]
+fn is_fixed(form: Fixed, token: &Token) -> bool
+    ensures { result ≡ is_fixed form token.now }
+{
+    match form {
+        Fixed::Name => matches!(token, Token::Name(_)),
+        Fixed::Keyword(word) => matches!(token, Token::Keyword(found) if *found == word),
+        Fixed::Mark(mark) => matches!(token, Token::Mark(found) if *found == mark),
+        Fixed::End => matches!(token, Token::End),
+    }
+}
+
+/// SYSTEM name ; { signal } BLOCK name ; PROCESS name ; start { state } and the closings.
+#[tactic(auto, unfolding(crate::specs::Reading::system_at))]
+fn system_of<'a>(
+    alloc: Global,
+    choices: &'a [u8],
+    tokens: &'a [Spanned],
+) -> Result<(SystemText, &'a [u8], &'a [Spanned]), NoMemory>
+    ensures { IfOk result (λ x. (x.0, x.1.now, x.2.now) ≡ system_at choices.now tokens.now) }
+{
+    let system = name_of(alloc, behind(tokens))?;
+    let (signals, choices, tokens) = signals_of(
+        alloc,
+        after(choices),
+        behind(behind(behind(tokens))),
+    )?;
+    let block = name_of(alloc, behind(tokens))?;
+    let tokens = behind(behind(behind(tokens)));
+    let process = name_of(alloc, behind(tokens))?;
+    let (start, choices, tokens) = start_of(alloc, choices, behind(behind(behind(tokens))))?;
+    let (states, choices, tokens) = states_of(alloc, choices, tokens)?;
     let system = SystemText {
         system,
         signals,
@@ -82,303 +151,312 @@ fn system_of(alloc: Global, tokens: &[Spanned]) -> Result<(SystemText, &[Spanned
         start,
         states,
     };
-    Ok((system, rest))
+    Ok((system, choices, tokens))
 }
 
-/// BLOCK name ; PROCESS name ; start { state } and the closings.
-#[tactic(auto, unfolding(crate::specs::Reading::body_at))]
-fn body_of(
+/// The signals.
+#[tactic(auto, using(crate::proofs::Repeats::turns))]
+fn signals_of<'a>(
     alloc: Global,
-    tokens: &[Spanned],
-) -> Result<((Ident, Ident, StartText, Items<StateText>), &[Spanned]), ParseError>
-    ensures { Gives (λ x. (x.0, x.1.now)) result (body_at tokens.now) }
-{
-    let (block, rest) = title_of(alloc, Keyword::Block, tokens)?;
-    let (process, rest) = title_of(alloc, Keyword::Process, rest)?;
-    let (start, rest) = start_of(alloc, rest)?;
-    let (states, rest) = states_of(alloc, rest)?;
-    let rest = closings_of(rest)?;
-    Ok(((block, process, start, states), rest))
-}
-
-/// The signals in front, of which there are no more than tokens.
-#[tactic(auto, using(crate::proofs::Repeats::turns), unfolding(crate::specs::Reading::signals_at))]
-fn signals_of(
-    alloc: Global,
-    tokens: &[Spanned],
-) -> Result<(Items<SignalText>, &[Spanned]), ParseError>
-    ensures { Gives (λ x. (x.0, x.1.now)) result (signals_at tokens.now) }
+    choices: &'a [u8],
+    tokens: &'a [Spanned],
+) -> Result<(Items<SignalText>, &'a [u8], &'a [Spanned]), NoMemory>
+    ensures { IfOk result (λ x. (x.0, x.1.now, x.2.now) ≡ many signal_at choices.now tokens.now) }
 {
     let mut signals = Items::new(alloc);
+    let mut left = choices;
     let mut rest = tokens;
-    for _ in 0..tokens.len() {
-        if !begins(Symbol::Keyword(Keyword::Signal), rest) {
-            return Ok((signals, rest));
+    for _ in 0..choices.len() {
+        if !goes_on(left) {
+            return Ok((signals, after(left), rest));
         }
-        let (signal, after) = signal_of(alloc, rest)?;
+        let (signal, later, more) = signal_of(alloc, after(left), rest)?;
         signals.push(signal)?;
-        rest = after;
+        left = later;
+        rest = more;
     }
-    Ok((signals, rest))
+    Ok((signals, left, rest))
 }
 
 /// SIGNAL name { , name } ;
 #[tactic(auto, unfolding(crate::specs::Reading::signal_at))]
-fn signal_of(alloc: Global, tokens: &[Spanned]) -> Result<(SignalText, &[Spanned]), ParseError>
-    ensures { Gives (λ x. (x.0, x.1.now)) result (signal_at tokens.now) }
+fn signal_of<'a>(
+    alloc: Global,
+    choices: &'a [u8],
+    tokens: &'a [Spanned],
+) -> Result<(SignalText, &'a [u8], &'a [Spanned]), NoMemory>
+    ensures { IfOk result (λ x. (x.0, x.1.now, x.2.now) ≡ signal_at choices.now tokens.now) }
 {
-    let (_, rest) = symbol_of(Symbol::Keyword(Keyword::Signal), tokens)?;
-    let (first, rest) = name_of(alloc, rest)?;
-    let (others, rest) = furthers_of(alloc, rest)?;
-    let (_, rest) = symbol_of(Symbol::Mark(Mark::Semicolon), rest)?;
-    Ok((SignalText { first, others }, rest))
+    let first = name_of(alloc, behind(tokens))?;
+    let (others, choices, tokens) = furthers_of(alloc, after(choices), behind(behind(tokens)))?;
+    Ok((SignalText { first, others }, choices, behind(tokens)))
 }
 
-/// The names in front that stand behind a comma each.
-#[tactic(auto, using(crate::proofs::Repeats::turns), unfolding(crate::specs::Reading::furthers_at))]
-fn furthers_of(alloc: Global, tokens: &[Spanned]) -> Result<(Items<Ident>, &[Spanned]), ParseError>
-    ensures { Gives (λ x. (x.0, x.1.now)) result (furthers_at tokens.now) }
+/// The names behind a comma each.
+#[tactic(auto, using(crate::proofs::Repeats::turns))]
+fn furthers_of<'a>(
+    alloc: Global,
+    choices: &'a [u8],
+    tokens: &'a [Spanned],
+) -> Result<(Items<Ident>, &'a [u8], &'a [Spanned]), NoMemory>
+    ensures { IfOk result (λ x. (x.0, x.1.now, x.2.now) ≡ many further_at choices.now tokens.now) }
 {
     let mut others = Items::new(alloc);
+    let mut left = choices;
     let mut rest = tokens;
-    for _ in 0..tokens.len() {
-        if !begins(Symbol::Mark(Mark::Comma), rest) {
-            return Ok((others, rest));
+    for _ in 0..choices.len() {
+        if !goes_on(left) {
+            return Ok((others, after(left), rest));
         }
-        let (other, after) = further_of(alloc, rest)?;
+        let (other, later, more) = further_of(alloc, after(left), rest)?;
         others.push(other)?;
-        rest = after;
+        left = later;
+        rest = more;
     }
-    Ok((others, rest))
+    Ok((others, left, rest))
 }
 
 /// , name
 #[tactic(auto, unfolding(crate::specs::Reading::further_at))]
-fn further_of(alloc: Global, tokens: &[Spanned]) -> Result<(Ident, &[Spanned]), ParseError>
-    ensures { Gives (λ x. (x.0, x.1.now)) result (further_at tokens.now) }
+fn further_of<'a>(
+    alloc: Global,
+    choices: &'a [u8],
+    tokens: &'a [Spanned],
+) -> Result<(Ident, &'a [u8], &'a [Spanned]), NoMemory>
+    ensures { IfOk result (λ x. (x.0, x.1.now, x.2.now) ≡ further_at choices.now tokens.now) }
 {
-    let (_, rest) = symbol_of(Symbol::Mark(Mark::Comma), tokens)?;
-    let (name, rest) = name_of(alloc, rest)?;
-    Ok((name, rest))
+    let name = name_of(alloc, behind(tokens))?;
+    Ok((name, after(choices), behind(behind(tokens))))
 }
 
 /// START ; next
 #[tactic(auto, unfolding(crate::specs::Reading::start_at))]
-fn start_of(alloc: Global, tokens: &[Spanned]) -> Result<(StartText, &[Spanned]), ParseError>
-    ensures { Gives (λ x. (x.0, x.1.now)) result (start_at tokens.now) }
+fn start_of<'a>(
+    alloc: Global,
+    choices: &'a [u8],
+    tokens: &'a [Spanned],
+) -> Result<(StartText, &'a [u8], &'a [Spanned]), NoMemory>
+    ensures { IfOk result (λ x. (x.0, x.1.now, x.2.now) ≡ start_at choices.now tokens.now) }
 {
-    let (place, rest) = closing_of(Keyword::Start, tokens)?;
-    let (next, rest) = next_of(alloc, rest)?;
-    Ok((StartText { place, next }, rest))
+    let place = place_in(tokens);
+    let (next, choices, tokens) = next_of(alloc, after(choices), behind(behind(tokens)))?;
+    Ok((StartText { place, next }, choices, tokens))
 }
 
-/// The states in front.
-#[tactic(auto, using(crate::proofs::Repeats::turns), unfolding(crate::specs::Reading::states_at))]
-fn states_of(
+/// The states.
+#[tactic(auto, using(crate::proofs::Repeats::turns))]
+fn states_of<'a>(
     alloc: Global,
-    tokens: &[Spanned],
-) -> Result<(Items<StateText>, &[Spanned]), ParseError>
-    ensures { Gives (λ x. (x.0, x.1.now)) result (states_at tokens.now) }
+    choices: &'a [u8],
+    tokens: &'a [Spanned],
+) -> Result<(Items<StateText>, &'a [u8], &'a [Spanned]), NoMemory>
+    ensures { IfOk result (λ x. (x.0, x.1.now, x.2.now) ≡ many state_at choices.now tokens.now) }
 {
     let mut states = Items::new(alloc);
+    let mut left = choices;
     let mut rest = tokens;
-    for _ in 0..tokens.len() {
-        if !begins(Symbol::Keyword(Keyword::State), rest) {
-            return Ok((states, rest));
+    for _ in 0..choices.len() {
+        if !goes_on(left) {
+            return Ok((states, after(left), rest));
         }
-        let (state, after) = state_of(alloc, rest)?;
+        let (state, later, more) = state_of(alloc, after(left), rest)?;
         states.push(state)?;
-        rest = after;
+        left = later;
+        rest = more;
     }
-    Ok((states, rest))
+    Ok((states, left, rest))
 }
 
 /// STATE name ; { input } ENDSTATE ;
-#[tactic(auto, unfolding(crate::specs::Reading::state_at, crate::specs::Reading::ending_at))]
-fn state_of(alloc: Global, tokens: &[Spanned]) -> Result<(StateText, &[Spanned]), ParseError>
-    ensures { Gives (λ x. (x.0, x.1.now)) result (state_at tokens.now) }
+#[tactic(auto, unfolding(crate::specs::Reading::state_at))]
+fn state_of<'a>(
+    alloc: Global,
+    choices: &'a [u8],
+    tokens: &'a [Spanned],
+) -> Result<(StateText, &'a [u8], &'a [Spanned]), NoMemory>
+    ensures { IfOk result (λ x. (x.0, x.1.now, x.2.now) ≡ state_at choices.now tokens.now) }
 {
-    let (name, rest) = title_of(alloc, Keyword::State, tokens)?;
-    let (inputs, rest) = inputs_of(alloc, rest)?;
-    let (_, rest) = closing_of(Keyword::Endstate, rest)?;
-    Ok((StateText { name, inputs }, rest))
+    let name = name_of(alloc, behind(tokens))?;
+    let (inputs, choices, tokens) = inputs_of(
+        alloc,
+        after(choices),
+        behind(behind(behind(tokens))),
+    )?;
+    Ok((StateText { name, inputs }, choices, behind(behind(tokens))))
 }
 
-/// The inputs in front.
-#[tactic(auto, using(crate::proofs::Repeats::turns), unfolding(crate::specs::Reading::inputs_at))]
-fn inputs_of(
+/// The inputs of a state.
+#[tactic(auto, using(crate::proofs::Repeats::turns))]
+fn inputs_of<'a>(
     alloc: Global,
-    tokens: &[Spanned],
-) -> Result<(Items<InputText>, &[Spanned]), ParseError>
-    ensures { Gives (λ x. (x.0, x.1.now)) result (inputs_at tokens.now) }
+    choices: &'a [u8],
+    tokens: &'a [Spanned],
+) -> Result<(Items<InputText>, &'a [u8], &'a [Spanned]), NoMemory>
+    ensures { IfOk result (λ x. (x.0, x.1.now, x.2.now) ≡ many input_at choices.now tokens.now) }
 {
     let mut inputs = Items::new(alloc);
+    let mut left = choices;
     let mut rest = tokens;
-    for _ in 0..tokens.len() {
-        if !begins(Symbol::Keyword(Keyword::Input), rest) {
-            return Ok((inputs, rest));
+    for _ in 0..choices.len() {
+        if !goes_on(left) {
+            return Ok((inputs, after(left), rest));
         }
-        let (input, after) = input_of(alloc, rest)?;
+        let (input, later, more) = input_of(alloc, after(left), rest)?;
         inputs.push(input)?;
-        rest = after;
+        left = later;
+        rest = more;
     }
-    Ok((inputs, rest))
+    Ok((inputs, left, rest))
 }
 
 /// INPUT name ; { output } next
 #[tactic(auto, unfolding(crate::specs::Reading::input_at))]
-fn input_of(alloc: Global, tokens: &[Spanned]) -> Result<(InputText, &[Spanned]), ParseError>
-    ensures { Gives (λ x. (x.0, x.1.now)) result (input_at tokens.now) }
+fn input_of<'a>(
+    alloc: Global,
+    choices: &'a [u8],
+    tokens: &'a [Spanned],
+) -> Result<(InputText, &'a [u8], &'a [Spanned]), NoMemory>
+    ensures { IfOk result (λ x. (x.0, x.1.now, x.2.now) ≡ input_at choices.now tokens.now) }
 {
-    let ((place, signal), rest) = heading_of(alloc, Keyword::Input, tokens)?;
-    let (outputs, rest) = outputs_of(alloc, rest)?;
-    let (next, rest) = next_of(alloc, rest)?;
-    Ok((
-        InputText {
-            place,
-            signal,
-            outputs,
-            next,
-        },
-        rest,
-    ))
+    let place = place_in(tokens);
+    let signal = name_of(alloc, behind(tokens))?;
+    let (outputs, choices, tokens) = outputs_of(
+        alloc,
+        after(choices),
+        behind(behind(behind(tokens))),
+    )?;
+    let (next, choices, tokens) = next_of(alloc, choices, tokens)?;
+    let input = InputText {
+        place,
+        signal,
+        outputs,
+        next,
+    };
+    Ok((input, choices, tokens))
 }
 
-/// The outputs in front.
-#[tactic(auto, using(crate::proofs::Repeats::turns), unfolding(crate::specs::Reading::outputs_at))]
-fn outputs_of(alloc: Global, tokens: &[Spanned]) -> Result<(Items<Ident>, &[Spanned]), ParseError>
-    ensures { Gives (λ x. (x.0, x.1.now)) result (outputs_at tokens.now) }
+/// The outputs of an input.
+#[tactic(auto, using(crate::proofs::Repeats::turns))]
+fn outputs_of<'a>(
+    alloc: Global,
+    choices: &'a [u8],
+    tokens: &'a [Spanned],
+) -> Result<(Items<Ident>, &'a [u8], &'a [Spanned]), NoMemory>
+    ensures { IfOk result (λ x. (x.0, x.1.now, x.2.now) ≡ many output_at choices.now tokens.now) }
 {
     let mut outputs = Items::new(alloc);
+    let mut left = choices;
     let mut rest = tokens;
-    for _ in 0..tokens.len() {
-        if !begins(Symbol::Keyword(Keyword::Output), rest) {
-            return Ok((outputs, rest));
+    for _ in 0..choices.len() {
+        if !goes_on(left) {
+            return Ok((outputs, after(left), rest));
         }
-        let (output, after) = title_of(alloc, Keyword::Output, rest)?;
+        let (output, later, more) = output_of(alloc, after(left), rest)?;
         outputs.push(output)?;
-        rest = after;
+        left = later;
+        rest = more;
     }
-    Ok((outputs, rest))
+    Ok((outputs, left, rest))
+}
+
+/// OUTPUT name ;
+#[tactic(auto, unfolding(crate::specs::Reading::output_at))]
+fn output_of<'a>(
+    alloc: Global,
+    choices: &'a [u8],
+    tokens: &'a [Spanned],
+) -> Result<(Ident, &'a [u8], &'a [Spanned]), NoMemory>
+    ensures { IfOk result (λ x. (x.0, x.1.now, x.2.now) ≡ output_at choices.now tokens.now) }
+{
+    let name = name_of(alloc, behind(tokens))?;
+    Ok((name, after(choices), behind(behind(behind(tokens)))))
 }
 
 /// NEXTSTATE name ;
 #[tactic(auto, unfolding(crate::specs::Reading::next_at))]
-fn next_of(alloc: Global, tokens: &[Spanned]) -> Result<(NextText, &[Spanned]), ParseError>
-    ensures { Gives (λ x. (x.0, x.1.now)) result (next_at tokens.now) }
-{
-    let ((place, state), rest) = heading_of(alloc, Keyword::Nextstate, tokens)?;
-    Ok((NextText { place, state }, rest))
-}
-
-/// ENDPROCESS ; ENDBLOCK ; ENDSYSTEM ; and the end of the file.
-#[tactic(auto, unfolding(crate::specs::Reading::closings_at, crate::specs::Reading::ending_at))]
-fn closings_of(tokens: &[Spanned]) -> Result<&[Spanned], ParseError>
-    ensures { Gives (λ rest. (tt, rest.now)) result (closings_at tokens.now) }
-{
-    let (_, rest) = closing_of(Keyword::Endprocess, tokens)?;
-    let (_, rest) = closing_of(Keyword::Endblock, rest)?;
-    let (_, rest) = closing_of(Keyword::Endsystem, rest)?;
-    let (_, rest) = symbol_of(Symbol::End, rest)?;
-    Ok(rest)
-}
-
-/// A keyword, a name and a semicolon, of which the name is kept.
-#[tactic(auto, unfolding(crate::specs::Reading::title_at))]
-fn title_of(
+fn next_of<'a>(
     alloc: Global,
-    word: Keyword,
-    tokens: &[Spanned],
-) -> Result<(Ident, &[Spanned]), ParseError>
-    ensures { Gives (λ x. (x.0, x.1.now)) result (title_at word tokens.now) }
+    choices: &'a [u8],
+    tokens: &'a [Spanned],
+) -> Result<(NextText, &'a [u8], &'a [Spanned]), NoMemory>
+    ensures { IfOk result (λ x. (x.0, x.1.now, x.2.now) ≡ next_at choices.now tokens.now) }
 {
-    let ((_, name), rest) = heading_of(alloc, word, tokens)?;
-    Ok((name, rest))
+    let place = place_in(tokens);
+    let state = name_of(alloc, behind(tokens))?;
+    Ok((
+        NextText { place, state },
+        after(choices),
+        behind(behind(behind(tokens))),
+    ))
 }
 
-/// A keyword, a name and a semicolon.
-#[tactic(auto, unfolding(crate::specs::Reading::heading_at))]
-fn heading_of(
-    alloc: Global,
-    word: Keyword,
-    tokens: &[Spanned],
-) -> Result<((Place, Ident), &[Spanned]), ParseError>
-    ensures { Gives (λ x. (x.0, x.1.now)) result (heading_at word tokens.now) }
+/// The tokens behind the first.
+fn behind(tokens: &[Spanned]) -> &[Spanned]
+    ensures { result.now ≡ behind tokens.now }
 {
-    let (place, rest) = symbol_of(Symbol::Keyword(word), tokens)?;
-    let (name, rest) = name_of(alloc, rest)?;
-    let (_, rest) = symbol_of(Symbol::Mark(Mark::Semicolon), rest)?;
-    Ok(((place, name), rest))
+    match tokens {
+        [] => tokens,
+        [_, rest @ ..] => rest,
+    }
 }
 
-/// A keyword and a semicolon.
-#[tactic(auto, unfolding(crate::specs::Reading::closing_at))]
-fn closing_of(word: Keyword, tokens: &[Spanned]) -> Result<(Place, &[Spanned]), ParseError>
-    ensures { Gives (λ x. (x.0, x.1.now)) result (closing_at word tokens.now) }
+/// The choices after the first.
+fn after(choices: &[u8]) -> &[u8]
+    ensures { result.now ≡ after choices.now }
 {
-    let (place, rest) = symbol_of(Symbol::Keyword(word), tokens)?;
-    let (_, rest) = symbol_of(Symbol::Mark(Mark::Semicolon), rest)?;
-    Ok((place, rest))
+    match choices {
+        [] => choices,
+        [_, rest @ ..] => rest,
+    }
+}
+
+/// Whether a repetition goes on.
+fn goes_on(choices: &[u8]) -> bool
+    ensures { result ≡ goes_on choices.now }
+{
+    match choices {
+        [] => false,
+        [first, ..] => *first == 1,
+    }
+}
+
+/// The place of the first token.
+fn place_in(tokens: &[Spanned]) -> Place
+    ensures { result ≡ place_in tokens.now }
+{
+    match tokens {
+        [] => Place {
+            file: 0,
+            line: 0,
+            column: 0,
+        },
+        [first, ..] => first.place,
+    }
 }
 
 /// The name in front, copied out of its token.
-#[tactic(auto, unfolding(crate::specs::Reading::name_at))]
-fn name_of(alloc: Global, tokens: &[Spanned]) -> Result<(Ident, &[Spanned]), ParseError>
-    ensures { Gives (λ x. (x.0, x.1.now)) result (name_at tokens.now) }
+fn name_of(alloc: Global, tokens: &[Spanned]) -> Result<Ident, NoMemory>
+    ensures { IfOk result (λ name. name ≡ name_in tokens.now) }
 {
-    match tokens {
-        [] => Err(ParseError::NoSentence),
-        [first, rest @ ..] => match &first.token {
-            Token::Name(word) => {
-                let word = word.copy(alloc)?;
-                Ok((
-                    Ident {
-                        place: first.place,
-                        word,
-                    },
-                    rest,
-                ))
-            }
-            _ => Err(ParseError::NoSentence),
-        },
-    }
+    let place = place_in(tokens);
+    let word = word_of(alloc, tokens)?;
+    Ok(Ident { place, word })
 }
 
-/// The symbol's place, and the tokens behind it.
-#[tactic(auto, unfolding(crate::specs::Reading::symbol_at))]
-fn symbol_of(symbol: Symbol, tokens: &[Spanned]) -> Result<(Place, &[Spanned]), ParseError>
-    ensures { Gives (λ x. (x.0, x.1.now)) result (symbol_at symbol tokens.now) }
+/// The word of the name in front.
+fn word_of(alloc: Global, tokens: &[Spanned]) -> Result<Word, NoMemory>
+    ensures { IfOk result (λ word. word ≡ word_in tokens.now) }
 {
     match tokens {
-        [] => Err(ParseError::NoSentence),
-        [first, rest @ ..] => {
-            if !is_symbol(symbol, &first.token) {
-                return Err(ParseError::NoSentence);
-            }
-            Ok((first.place, rest))
-        }
-    }
-}
-
-/// Whether the symbol stands in front.
-#[tactic(auto, unfolding(crate::specs::Reading::begins))]
-fn begins(symbol: Symbol, tokens: &[Spanned]) -> bool
-    ensures { result ≡ begins symbol tokens.now }
-{
-    match tokens {
-        [] => false,
-        [first, ..] => is_symbol(symbol, &first.token),
-    }
-}
-
-/// Whether the token is this keyword, this mark or the end.
-#[tactic(auto, unfolding(crate::specs::Reading::same_keyword, crate::specs::Reading::same_mark))]
-fn is_symbol(symbol: Symbol, token: &Token) -> bool
-    ensures { result ≡ is_symbol symbol token.now }
-{
-    match symbol {
-        Symbol::Keyword(word) => matches!(token, Token::Keyword(found) if *found == word),
-        Symbol::Mark(mark) => matches!(token, Token::Mark(found) if *found == mark),
-        Symbol::End => matches!(token, Token::End),
+        [
+            Spanned {
+                token: Token::Name(word),
+                ..
+            },
+            ..
+        ] => Ok(word.copy(alloc)?),
+        _ => Ok(Word {
+            bytes: Items::new(alloc),
+        }),
     }
 }

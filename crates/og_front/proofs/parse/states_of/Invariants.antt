@@ -1,9 +1,7 @@
 use Rattle.std.proofs.Common.{◌-◌}
-use Rattle.og_lexer.specs.declared.Keyword.TheVariants as keyword
-use Rattle.og_front.specs.declared.parse.Symbol.TheVariants as symbol
-use Rattle.og_front.specs.Reading.{state_at, states_at}
+use Rattle.og_front.specs.Reading.{state_at, many}
 use Rattle.og_front.proofs.Repeats.{SoFar}
 use Rattle.og_front.proofs.parse.states_of.Given as goal
 
 abbrev pub invariant-loop : goal.invariant-loop
-invariant-loop l = SoFar (symbol.Keyword keyword.State) state_at l.states (l.end - l.counter) l.rest (states_at l.tokens)
+invariant-loop l = SoFar state_at l.states (l.end - l.counter) l.left l.rest (many state_at l.choices l.tokens)

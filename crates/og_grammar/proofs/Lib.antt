@@ -1,0 +1,15 @@
+pub mod Known
+pub mod Sets
+pub mod Leading
+pub mod Least
+pub mod Stack
+pub mod Choices
+pub mod Advances
+pub mod Entering
+pub mod Telling
+pub mod Sound
+pub mod Standing
+pub mod Reaching
+pub mod Deriving
+pub mod Unique
+pub mod Limits

@@ -1,0 +1,6 @@
+pub mod Sentence
+pub mod Predictive
+pub mod Rows
+pub mod Steps
+pub mod Answers
+pub mod Standing
