@@ -1,6 +1,5 @@
 pub mod Additions
 pub mod Building
-pub mod EachFile
 pub mod Elements
 pub mod Formed
 pub mod Kept
