@@ -15,6 +15,7 @@ ghost use Rattle.og_front.specs.Names.{HasShortNames};
 ghost use Rattle.og_front.specs.Rules.{first_of_rules};
 ghost use Rattle.og_front.specs.Written.{IsWrittenTree};
 
+use og_grammar::each_is_answered;
 use og_lexer::one_reading;
 
 /// Any bytes are an accepted file or have a first violation, which is one, and never both.
@@ -24,6 +25,7 @@ pub fn one_answer()
     ensures one { (bytes : List ℕ) (v w : Violation) → FirstViolation bytes v → FirstViolation bytes w → v ≡ w }
 {
     one_reading();
+    each_is_answered();
 }
 
 /// The first violation of a list is one of them, none of them comes before it, and only of none is there no first.
