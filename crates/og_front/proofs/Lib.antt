@@ -1,5 +1,6 @@
 pub mod Additions
 pub mod Building
+pub mod EachFile
 pub mod Elements
 pub mod Formed
 pub mod Kept

@@ -1,5 +1,5 @@
 //! Laws of the rules and of files, each as the contract of a function that does nothing.
-ghost use Rattle.std.specs.Prelude.{◌≡◌, ◌↔◌, ℕ, List, [], false, Some, None, Contains};
+ghost use Rattle.std.specs.Prelude.{◌≡◌, ◌⊎◌, ◌↔◌, ℕ, List, [], false, Some, None, Contains};
 ghost use Rattle.og_base.specs.declared.Violation.{Violation};
 ghost use Rattle.og_base.specs.Order.{comes_before, first_of};
 ghost use Rattle.og_lexer.specs.declared.Spanned.{Spanned};
@@ -8,21 +8,24 @@ ghost use Rattle.og_model.specs.Forms.{UsesBasicStatesOnly};
 ghost use Rattle.og_model.specs.WellFormed.{IsWellFormed};
 ghost use Rattle.og_front.specs.declared.syntax.SystemText.{SystemText};
 ghost use Rattle.og_front.specs.Examples.{two_states, two_states_model, two_headers, two_headers_model};
-ghost use Rattle.og_front.specs.Files.{IsAccepted, FirstViolation};
+ghost use Rattle.og_front.specs.Files.{IsAccepted, IsRefused, FirstViolation};
 ghost use Rattle.og_front.specs.Grammar.{Spells};
 ghost use Rattle.og_front.specs.ModelOf.{model_of_tree};
 ghost use Rattle.og_front.specs.Names.{HasShortNames};
 ghost use Rattle.og_front.specs.Rules.{first_of_rules};
 ghost use Rattle.og_front.specs.Written.{IsWrittenTree};
 
+use og_grammar::each_is_answered;
 use og_lexer::one_reading;
 
-/// A file is accepted or has one first violation, and never both.
+/// Any bytes are an accepted file or have a first violation, which is one, and never both.
 pub fn one_answer()
+    ensures each { (bytes : List ℕ) → IsAccepted bytes ⊎ IsRefused bytes }
     ensures apart { (bytes : List ℕ) (v : Violation) → IsAccepted bytes → FirstViolation bytes v → ⊥ }
     ensures one { (bytes : List ℕ) (v w : Violation) → FirstViolation bytes v → FirstViolation bytes w → v ≡ w }
 {
     one_reading();
+    each_is_answered();
 }
 
 /// The first violation of a list is one of them, none of them comes before it, and only of none is there no first.

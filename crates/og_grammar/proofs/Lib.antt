@@ -13,3 +13,4 @@ pub mod Reaching
 pub mod Deriving
 pub mod Unique
 pub mod Limits
+pub mod Each

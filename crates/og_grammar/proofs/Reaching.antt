@@ -97,7 +97,7 @@ module _ (table : List Symbol) (parts : List Part) (last : ℕ) (known : is_pred
 
 -- ---- the first state
 
-first_stands : (table : List Symbol) (parts : List Part) (last limit : ℕ) → is_predictive table parts last ≡ true → Stands table parts last limit [] (expected (whole last) []) 0 []
+pub first_stands : (table : List Symbol) (parts : List Part) (last limit : ℕ) → is_predictive table parts last ≡ true → Stands table parts last limit [] (expected (whole last) []) 0 []
 first_stands table parts last limit known =
     let sound = sound_of table parts last known in
     let end : Goes table (Token last ∷ []) (part_at parts 0).bars = (last ∷ [], [], token nothing, sound.bars) in

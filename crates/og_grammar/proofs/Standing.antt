@@ -85,21 +85,21 @@ within-append : (limit : ℕ) (a b : List ℕ) → AreWithin limit a → AreWith
 within-append limit [] b h g = g
 within-append limit (x ∷ a) b h g = (h.0, within-append limit a b h.1 g)
 
-token_goes : {table : List Symbol} {k : ℕ} {rest : List Symbol} → Goes table (Token k ∷ rest) 0 → Goes table rest 0
+pub token_goes : {table : List Symbol} {k : ℕ} {rest : List Symbol} → Goes table (Token k ∷ rest) 0 → Goes table rest 0
 token_goes {table = table} {k = k} {rest = rest} g = by g.2
   where
     by : {ts cs : List ℕ} → Derives table (Token k ∷ rest) ts cs → Goes table rest 0
     by (token {tokens = ts} {choices = cs} d) = (ts, cs, d, avoids_none ts)
     by (chosen _ c way w d) = absurd cc
 
-raising_goes : {table : List Symbol} {k : ℕ} {rest : List Symbol} → Goes table (Raising k ∷ rest) 0 → Goes table rest 0
+pub raising_goes : {table : List Symbol} {k : ℕ} {rest : List Symbol} → Goes table (Raising k ∷ rest) 0 → Goes table rest 0
 raising_goes {table = table} {k = k} {rest = rest} g = by g.2
   where
     by : {ts cs : List ℕ} → Derives table (Raising k ∷ rest) ts cs → Goes table rest 0
     by (raising {tokens = ts} {choices = cs} d) = (ts, cs, d, avoids_none ts)
     by (chosen _ c way w d) = absurd cc
 
-bottom_behind : (last : ℕ) (d : Due) (due : List Due) → IsBottomed last (d ∷ due) → IsBottomed last due
+pub bottom_behind : (last : ℕ) (d : Due) (due : List Due) → IsBottomed last (d ∷ due) → IsBottomed last due
 bottom_behind last d due (inl e) = absurd cc
 bottom_behind last d due (inr ([], e)) = inl (tail_is e)
 bottom_behind last d due (inr (x ∷ f, e)) = inr (f, tail_is e)
@@ -228,7 +228,7 @@ not_ended {table = table} last [] (chosen s c way w d) e f =
 not_ended last (x ∷ front) (chosen s c way w d) e f =
     not_ended last (way ++ front) d (ap (λ (z : List Symbol). way ++ z) (tail_is e) ∙ sym (append_assoc way front (Token last ∷ []))) f
 
-symbols-append : (a b : List Due) → symbols_due (a ++ b) ≡ symbols_due a ++ symbols_due b
+pub symbols-append : (a b : List Due) → symbols_due (a ++ b) ≡ symbols_due a ++ symbols_due b
 symbols-append [] b = refl
 symbols-append (Restore count ∷ a) b = symbols-append a b
 symbols-append (Expect s ∷ a) b = ap (λ (z : List Symbol). s ∷ z) (symbols-append a b)

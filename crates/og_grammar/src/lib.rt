@@ -6,7 +6,7 @@ mod reader;
 mod rows;
 mod run;
 
-pub use reader::{Refusal, derive, never_deeper, one_derivation};
+pub use reader::{Refusal, derive, each_is_answered, never_deeper, one_derivation};
 
 /// A symbol of a table. A table is a list of rules: each begins with `Rule`, and what stands behind it up to the next
 /// `Rule` are its symbols. The rules of a part are its alternatives, counted from 0 in their order. Kinds of tokens are

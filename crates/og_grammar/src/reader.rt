@@ -1,5 +1,5 @@
 //! The public call: the derivation of a list of tokens.
-ghost use Rattle.std.specs.Prelude.{◌≡◌, ℕ, List, IfOk, IsTrue, length, reverse};
+ghost use Rattle.std.specs.Prelude.{◌≡◌, ◌⊎◌, ℕ, List, IfOk, IsTrue, length, reverse};
 ghost use Rattle.og_grammar.specs.Sentence.{Spells};
 ghost use Rattle.og_grammar.specs.declared.Symbol.{Symbol};
 ghost use Rattle.og_grammar.specs.declared.Part.{Part};
@@ -81,6 +81,12 @@ pub fn derive(
 pub fn one_derivation()
     ensures { (table : List Symbol) (parts : List Part) (last : ℕ) → IsTrue (is_predictive table parts last) → (tokens a b : List ℕ) →
         Spells table last tokens a → Spells table last tokens b → a ≡ b }
+{}
+
+/// Each list of tokens has a derivation or has none.
+pub fn each_is_answered()
+    ensures { (table : List Symbol) (parts : List Part) (last : ℕ) → IsTrue (is_predictive table parts last) → (tokens : List ℕ) →
+        ((choices : List ℕ) × Spells table last tokens choices) ⊎ ((choices : List ℕ) → Spells table last tokens choices → ⊥) }
 {}
 
 /// A limit of as many as there are tokens is never passed.
