@@ -36,11 +36,11 @@ lines-preserved c =
 pub returns-in-Err-clause-ids : goal.returns-in-Err-clause-ids
 returns-in-Err-clause-ids c =
     let before = c.lines.cursor in
-    last_list c.args.model.now before.line (lines_of (drop before.offset c.args.text.now)) (Bad c.in_ok-bad.bad.line c.in_ok-bad.bad.rule) c.lines.ids.items _
-    (at_bad c.args.model.now c.args.text.now before c.next_stimulus.new.cursor c.in-Err.error _ _ c.in_ok-bad.ensures.bad c.in-Err.ensures.bad) refl c.lines.invariant.ids
+    last_list c.args.model.now before.line (lines_of (drop before.offset c.args.text.now)) (Bad c.in_ok-bad-in-Err.bad.line c.in_ok-bad-in-Err.bad.rule) c.lines.ids.items _
+    (at_bad c.args.model.now c.args.text.now before c.next_stimulus.new.cursor c.in-Err.error _ _ c.in_ok-bad-in-Err.ensures.bad c.in-Err.ensures.bad) refl c.lines.invariant.ids
 
 pub returns-in-Err-clause-bad : goal.returns-in-Err-clause-bad
 returns-in-Err-clause-bad c =
     let before = c.lines.cursor in
-    last_bad c.args.model.now before.line (lines_of (drop before.offset c.args.text.now)) (Bad c.in_ok-bad.bad.line c.in_ok-bad.bad.rule) _ _
-    (at_bad c.args.model.now c.args.text.now before c.next_stimulus.new.cursor c.in-Err.error _ _ c.in_ok-bad.ensures.bad c.in-Err.ensures.bad) refl c.lines.invariant.bad
+    last_bad c.args.model.now before.line (lines_of (drop before.offset c.args.text.now)) (Bad c.in_ok-bad-in-Err.bad.line c.in_ok-bad-in-Err.bad.rule) _ _
+    (at_bad c.args.model.now c.args.text.now before c.next_stimulus.new.cursor c.in-Err.error _ _ c.in_ok-bad-in-Err.ensures.bad c.in-Err.ensures.bad) refl c.lines.invariant.bad
