@@ -8,7 +8,7 @@ use Rattle.og_tool.proofs.reading.model_of_bytes.Goals as goal
 
 pub returns-in-Err-clause-broken : goal.returns-in-Err-clause-broken
 returns-in-Err-clause-broken c =
-    no_tree c.args.bytes.now c.in_ok-lexed.lexed.tokens c.as_slice-tokens.result.now c.in_ok-lexed.lexed.comments c.no_sentence.result c.in_ok-lexed.ensures.found c.as_slice-tokens.ensures (c.in-Err.ensures.none (ap Err c.in_ok-no_sentence_in.ensures.no_sentence)) c.no_sentence.ensures
+    no_tree c.args.bytes.now c.in_ok-lexed.lexed.tokens c.as_slice-tokens.result.now c.in_ok-lexed.lexed.comments c.no_sentence.result c.in_ok-lexed.ensures.found c.as_slice-tokens.ensures (c.in-Err.ensures.none (ap Err c.in_ok-no_sentence_in-in-Err.ensures.no_sentence)) c.no_sentence.ensures
 
 pub model_of_system-requires : goal.model_of_system-requires
 model_of_system-requires c =

@@ -22,14 +22,14 @@ returns-in-Ok-clause-too_large g c = λ e.
     c.in_ok-bytes.ensures.kept c.requires.has_model (record { holds = c.in_ok-bytes.ensures.whole; small = c.in_ok-bytes.ensures.small })
     (subst P c.deref.ensures.value c.in-Ok.ensures.loads) (c.run_loaded.ensures.too_large e)
 
-pub returns-in-Err-clause-output : goal.returns-in-Err-clause-output
-returns-in-Err-clause-output g c =
+pub returns-clause-output : goal.returns-clause-output
+returns-clause-output g c =
     let P : ProgramError → Type 0 = λ error. TellsProgram c.args.model.now c.deref.result.now error in
-    let Q : List ℕ → Type 0 = λ bytes. IsBadFor c.args.model.now bytes c.in_ok-bad.bad in
-    let L : List ℕ → Type 0 = λ name. IfOk c.bad_program.result (λ output. output.text.items ≡ bad_program_line name c.in_ok-bad.bad) in
-    bad_output (g.S.Store.holds c.args.store.now) c.args.file.now c.args.program.now c.args.stimuli.now c.in_ok-bytes.bytes.items c.args.steps c.args.model.now c.in_ok-bad.bad c.bad_program.result
+    let Q : List ℕ → Type 0 = λ bytes. IsBadFor c.args.model.now bytes c.in_ok-bad-in-Err.bad in
+    let L : List ℕ → Type 0 = λ name. IfOk c.bad_program.result (λ output. output.text.items ≡ bad_program_line name c.in_ok-bad-in-Err.bad) in
+    bad_output (g.S.Store.holds c.args.store.now) c.args.file.now c.args.program.now c.args.stimuli.now c.in_ok-bytes.bytes.items c.args.steps c.args.model.now c.in_ok-bad-in-Err.bad c.bad_program.result
     c.requires.has_model (record { holds = c.in_ok-bytes.ensures.whole; small = c.in_ok-bytes.ensures.small })
-    (subst Q c.deref.ensures.value (subst P c.in_ok-bad.ensures.bad c.in-Err.ensures.bad))
+    (subst Q c.deref.ensures.value (subst P c.in_ok-bad-in-Err.ensures.bad c.in-Err.ensures.bad))
     c.bad_program.ensures.status (subst L c.as_bytes.ensures.value c.bad_program.ensures.line)
 
 pub returns-in_err-bytes-clause-too_large : goal.returns-in_err-bytes-clause-too_large
