@@ -76,7 +76,8 @@ fn run_over_model<S: Store>(
         Ok(loaded) => run_loaded(alloc, store, loaded, model, file, stimuli, steps),
         Err(error) => {
             let bad = reason_of(error)?;
-            Ok(bad_program(alloc, program.as_bytes(), bad)?)
+            let output = bad_program(alloc, program.as_bytes(), bad)?;
+            Ok(output)
         }
     }
 }

@@ -1,5 +1,4 @@
-use Rattle.std.proofs.Common.{rules, ◌≡◌, List, ℕ, subst}
-use Rattle.std.specs.Prelude.{IfOk}
+use Rattle.std.proofs.Common.{rules, ◌≡◌, List, ℕ, Ok, subst}
 use Rattle.og_base.specs.Store.{HoldsMore}
 use Rattle.og_tool.specs.declared.program.ProgramError.{ProgramError}
 use Rattle.og_tool.specs.Answers.{limit, RoseAt}
@@ -26,11 +25,11 @@ pub returns-clause-output : goal.returns-clause-output
 returns-clause-output g c =
     let P : ProgramError → Type 0 = λ error. TellsProgram c.args.model.now c.deref.result.now error in
     let Q : List ℕ → Type 0 = λ bytes. IsBadFor c.args.model.now bytes c.in_ok-bad-in-Err.bad in
-    let L : List ℕ → Type 0 = λ name. IfOk c.bad_program.result (λ output. output.text.items ≡ bad_program_line name c.in_ok-bad-in-Err.bad) in
-    bad_output (g.S.Store.holds c.args.store.now) c.args.file.now c.args.program.now c.args.stimuli.now c.in_ok-bytes.bytes.items c.args.steps c.args.model.now c.in_ok-bad-in-Err.bad c.bad_program.result
+    let L : List ℕ → Type 0 = λ name. c.in_ok-output-in-Err.output.text.items ≡ bad_program_line name c.in_ok-bad-in-Err.bad in
+    bad_output (g.S.Store.holds c.args.store.now) c.args.file.now c.args.program.now c.args.stimuli.now c.in_ok-bytes.bytes.items c.args.steps c.args.model.now c.in_ok-bad-in-Err.bad (Ok c.in_ok-output-in-Err.output)
     c.requires.has_model (record { holds = c.in_ok-bytes.ensures.whole; small = c.in_ok-bytes.ensures.small })
     (subst Q c.deref.ensures.value (subst P c.in_ok-bad-in-Err.ensures.bad c.in-Err.ensures.bad))
-    c.bad_program.ensures.status (subst L c.as_bytes.ensures.value c.bad_program.ensures.line)
+    c.in_ok-output-in-Err.ensures.status (subst L c.as_bytes.ensures.value c.in_ok-output-in-Err.ensures.line)
 
 pub returns-in_err-bytes-clause-too_large : goal.returns-in_err-bytes-clause-too_large
 returns-in_err-bytes-clause-too_large g c = λ e.
