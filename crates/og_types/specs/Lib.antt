@@ -1,3 +1,4 @@
 pub mod Values
 pub mod Table
+pub mod Measures
 pub mod Laws
