@@ -1,5 +1,5 @@
 -- A table with a further type: the earlier types stay as they were, and it is a table again.
-use Rattle.std.proofs.Common.{◌≡◌, ℕ, zero, suc, ◌+◌, ◌<◌, ◌≤◌, Bool, true, false, ◌&&◌, List, [], ◌∷◌, ◌++◌, length, slice_get, nat_le, Some, refl, sym, ap, ◌∙◌, subst, zero-add, arith}
+use Rattle.std.proofs.Common.{◌≡◌, ℕ, zero, suc, ◌+◌, ◌<◌, ◌≤◌, true, List, [], ◌∷◌, ◌++◌, length, slice_get, nat_le, Some, refl, sym, ap, ◌∙◌, subst, zero-add, arith}
 use Rattle.og_types.specs.declared.TypeId.{TypeId}
 use Rattle.og_types.specs.declared.Sort.{Sort}
 use Rattle.og_types.specs.Values.{IsDownward}
@@ -51,9 +51,9 @@ sorts_stay types more d s n [] b h = refl
 sorts_stay types more d s n (t ∷ ts) b h =
     both_true _ _ (both_first _ _ h)
     (both_true _ _
-      (ap (λ (k : ℕ). nat_le k 64) (sym (depth_stays (length types) types more d s (numbered n) (omega (arith, b))))
-        ∙ both_first _ _ (both_second _ _ h))
-      (sorts_stay types more d s (suc n) ts (omega (arith, b)) (both_second _ _ (both_second _ _ h))))
+    (ap (λ (k : ℕ). nat_le k 64) (sym (depth_stays (length types) types more d s (numbered n) (omega (arith, b))))
+    ∙ both_first _ _ (both_second _ _ h))
+    (sorts_stay types more d s (suc n) ts (omega (arith, b)) (both_second _ _ (both_second _ _ h))))
 
 sorts_grow : (more : List Sort) (n : ℕ) (ts : List Sort) (t : Sort) (m : ℕ) → n + length ts ≡ m → are_sorts_from more n ts ≡ true
     → is_sort_after m t ≡ true → nat_le (depth more (numbered m)) 64 ≡ true → are_sorts_from more n (ts ++ t ∷ []) ≡ true
@@ -82,3 +82,32 @@ module _ (types : List Sort) (t : Sort) (table : is_table types ≡ true) (may :
       sorts_grow (types ++ t ∷ []) 0 types t (length types) (zero-add (length types))
       (sorts_stay types (types ++ t ∷ []) (tables_are_downward types table) (same_below types (t ∷ [])) 0 types (omega arith) table)
       may.sort shallow
+
+-- the type that stands last
+last_of : (more : List Sort) (n : ℕ) (ts : List Sort) (t : Sort) → are_sorts_from more n (ts ++ t ∷ []) ≡ true
+    → (is_sort_after (n + length ts) t ≡ true) × (nat_le (depth more (numbered (n + length ts))) 64 ≡ true)
+last_of more n [] t h =
+    subst (λ (m : ℕ). (is_sort_after m t ≡ true) × (nat_le (depth more (numbered m)) 64 ≡ true)) (none_behind n)
+    (both_first _ _ h, both_first _ _ (both_second _ _ h))
+last_of more n (x ∷ ts) t h =
+    subst (λ (m : ℕ). (is_sort_after m t ≡ true) × (nat_le (depth more (numbered m)) 64 ≡ true)) (one_behind n (length ts))
+    (last_of more (suc n) ts t (both_second _ _ (both_second _ _ h)))
+
+-- a type that stands behind a table in another one
+module _ (types : List Sort) (t : Sort) (table : is_table types ≡ true) (whole : is_table (types ++ t ∷ []) ≡ true) where
+  stands : (is_sort_after (length types) t ≡ true) × (nat_le (depth (types ++ t ∷ []) (numbered (length types))) 64 ≡ true)
+  stands =
+      subst (λ (m : ℕ). (is_sort_after m t ≡ true) × (nat_le (depth (types ++ t ∷ []) (numbered m)) 64 ≡ true)) (zero-add (length types))
+      (last_of (types ++ t ∷ []) 0 types t whole)
+
+  refers_too : Below (length types) (slice_get (types ++ t ∷ []) (length types))
+  refers_too = subst (Below (length types)) (sym (last_is types t)) (refers_below (length types) t stands.0)
+
+  pub may_stand : MayStandBehind types t
+  may_stand = record {
+    sort = stands.0;
+    depth = subst (λ (k : ℕ). k ≤ 64)
+        (depth_behind (length types) types (types ++ t ∷ []) (tables_are_downward types table) (same_below types (t ∷ [])) refers_too
+        ∙ ap (depth_of_sort (depth types)) (last_is types t))
+        (leb-true _ _ stands.1);
+  }

@@ -115,7 +115,6 @@ next_to n = omega arith
 module _ (A : Type 0) (within : ℕ → List Sort → TypeId → A) (layer : (TypeId → A) → Option Sort → A)
     (step : (d : ℕ) (types : List Sort) (id : TypeId) → within (suc d) types id ≡ layer (within d types) (slice_get types id.0))
     (same : (n : ℕ) (f g : TypeId → A) → Agree n f g → (t : Option Sort) → Below n t → layer f t ≡ layer g t) where
-
   within_same : (n : ℕ) (types more : List Sort) → IsDownward types → SameBelow n types more
       → (d d' : ℕ) (id : TypeId) → id.0 < n → id.0 < d → id.0 < d' → within d types id ≡ within d' more id
   within_same n types more h s zero d' id m p q = absurd (omega (arith, p))
@@ -123,16 +122,16 @@ module _ (A : Type 0) (within : ℕ → List Sort → TypeId → A) (layer : (Ty
   within_same n types more h s (suc d) (suc d') id m p q =
       step d types id
       ∙ same id.0 (within d types) (within d' more)
-        (λ x r. within_same n types more h s d d' x (between x.0 id.0 n r m) (under x.0 id.0 d r p) (under x.0 id.0 d' r q))
-        (slice_get types id.0) (below_of types h id.0)
+      (λ x r. within_same n types more h s d d' x (between x.0 id.0 n r m) (under x.0 id.0 d r p) (under x.0 id.0 d' r q))
+      (slice_get types id.0) (below_of types h id.0)
       ∙ ap (layer (within d' more)) (s id.0 m) ∙ sym (step d' more id)
 
   by_layer : (types : List Sort) → IsDownward types → (id : TypeId) → within (suc id.0) types id ≡ layer (λ x. within (suc x.0) types x) (slice_get types id.0)
   by_layer types h id =
       step id.0 types id
       ∙ same id.0 (within id.0 types) (λ x. within (suc x.0) types x)
-        (λ x r. within_same (suc x.0) types types h (λ k b. refl) id.0 (suc x.0) x (next_to x.0) r (next_to x.0))
-        (slice_get types id.0) (below_of types h id.0)
+      (λ x r. within_same (suc x.0) types types h (λ k b. refl) id.0 (suc x.0) x (next_to x.0) r (next_to x.0))
+      (slice_get types id.0) (below_of types h id.0)
 
   stays : (n : ℕ) (types more : List Sort) → IsDownward types → SameBelow n types more → (id : TypeId) → id.0 < n → within (suc id.0) types id ≡ within (suc id.0) more id
   stays n types more h s id m = within_same n types more h s (suc id.0) (suc id.0) id m (next_to id.0) (next_to id.0)
@@ -143,7 +142,7 @@ module _ (A : Type 0) (within : ℕ → List Sort → TypeId → A) (layer : (Ty
   behind n types more h s b =
       step n more (record { 0 = n })
       ∙ same n (within n more) (λ x. within (suc x.0) types x)
-        (λ x r. sym (within_same n types more h s (suc x.0) n x r (next_to x.0) r)) (slice_get more n) b
+      (λ x r. sym (within_same n types more h s (suc x.0) n x r (next_to x.0) r)) (slice_get more n) b
 
 -- ---- the answers
 

@@ -1,7 +1,7 @@
 -- The first value of a type is in the type.
-use Rattle.std.proofs.Common.{◌≡◌, ℕ, zero, suc, ◌+◌, ◌<◌, ◌≤◌, Bool, true, false, ◌&&◌, List, [], ◌∷◌, length, map, replicate, slice_get, Option, Some, None, refl, sym, ap, ◌∙◌, arith, ℤ, pos, negsuc}
+use Rattle.std.proofs.Common.{◌≡◌, ℕ, zero, suc, ◌+◌, ◌<◌, ◌≤◌, Bool, true, false, List, [], ◌∷◌, length, map, replicate, slice_get, Option, Some, None, refl, sym, ap, ◌∙◌, arith, ℤ, pos, negsuc}
 use Rattle.std.proofs.lemmas.Bool.{false≢true, leb-true, le-leb, ltb-true, lt-ltb}
-use Rattle.std.specs.Prelude.{nat_lt, nat_le, int_le}
+use Rattle.std.specs.Prelude.{nat_le, int_le}
 use Rattle.std.specs.List.{list_all}
 use Rattle.std.proofs.lemmas.List.{length-replicate}
 use Rattle.og_types.specs.declared.TypeId.{TypeId}
@@ -10,7 +10,7 @@ use Rattle.og_types.specs.declared.Sort.{Sort}
 use Rattle.og_types.specs.declared.Sort.TheVariants as Sorts
 use Rattle.og_types.specs.declared.Value.{Value, out-Value}
 use Rattle.og_types.specs.declared.Value.TheVariants.{outs-Int, outs-Bool, outs-Enumerated, outs-Sequence, outs-Choice, outs-SeqOf}
-use Rattle.og_types.specs.Values.{in_parts, in_sort, is_in, first, first_within, first_of_sort, is_supported_sort, is_supported, is_between, IsDownward, PartsBelow}
+use Rattle.og_types.specs.Values.{in_parts, in_sort, is_in, first, first_within, first_of_sort, is_supported_sort, is_supported, IsDownward, PartsBelow}
 use Rattle.og_types.specs.Table.{is_table, is_sort_after}
 use Rattle.og_types.proofs.Downward.{is_in_is, first_is, is_supported_is}
 use Rattle.og_types.proofs.Tables.{sort_after, parts_below, tables_are_downward}
@@ -28,7 +28,6 @@ at_most n m v h = omega (arith, length-replicate n v)
 
 module _ (n : ℕ) (inside : TypeId → Value → Bool) (f : TypeId → Value) (s : TypeId → Bool)
     (inner : (id : TypeId) → id.0 < n → s id ≡ true → inside id (f id) ≡ true) where
-
   parts_in : (ps : List Part) → PartsBelow n ps → list_all (λ (p : Part). s p.sort) ps ≡ true → in_parts inside ps (map (λ (p : Part). f p.sort) ps) ≡ true
   parts_in [] b h = refl
   parts_in (p ∷ ps) b h = both_true _ _ (inner p.sort b.0 (both_first _ _ h)) (parts_in ps b.1 (both_second _ _ h))
@@ -53,7 +52,7 @@ module _ (n : ℕ) (inside : TypeId → Value → Bool) (f : TypeId → Value) (
       let below = ltb-true item.0 n (both_second _ _ (both_second (nat_le lo hi) _ a)) in
       ap (in_sort inside (Some (Sorts.SeqOf lo hi item))) (outs-SeqOf (replicate lo (f item)))
       ∙ both_true _ _ (le-leb lo (length (replicate lo (f item))) (at_least lo (f item)))
-        (both_true _ _ (le-leb (length (replicate lo (f item))) hi (at_most lo hi (f item) most)) (items_in item (inner item below h) lo))
+      (both_true _ _ (le-leb (length (replicate lo (f item))) hi (at_most lo hi (f item) most)) (items_in item (inner item below h) lo))
   sort_in Sorts.Opaque a h = absurd (false≢true h)
 
 module _ (types : List Sort) (table : is_table types ≡ true) where
@@ -68,7 +67,7 @@ module _ (types : List Sort) (table : is_table types ≡ true) where
       ∙ ap (λ (v : Value). in_sort (is_in types) (slice_get types id.0) (out-Value v)) (first_is types downward id)
       ∙ ap (λ (o : Option Sort). in_sort (is_in types) o (out-Value (first_of_sort (first types) o))) e
       ∙ sort_in id.0 (is_in types) (first types) (is_supported types) inner t (sort_after types table id.0 t e)
-        (ap (is_supported_sort (is_supported types)) (sym e) ∙ sym (is_supported_is types downward id) ∙ h)
+      (ap (is_supported_sort (is_supported types)) (sym e) ∙ sym (is_supported_is types downward id) ∙ h)
 
   by_sort : (id : TypeId) (o : Option Sort) → slice_get types id.0 ≡ o
       → ((x : TypeId) → x.0 < id.0 → is_supported types x ≡ true → is_in types x (first types x) ≡ true)

@@ -4,3 +4,4 @@ pub mod Added
 pub mod Measured
 pub mod FirstIn
 pub mod Firsts
+pub mod Computing

@@ -1,5 +1,5 @@
 -- The measures of a table: those of its types, found by those of earlier types.
-use Rattle.std.proofs.Common.{◌≡◌, ℕ, zero, suc, ◌+◌, ◌*◌, ◌-◌, ◌<◌, ◌≤◌, ◌^◌, min, max, Bool, true, List, [], ◌∷◌, ◌++◌, length, slice_get, get_or, Option, Some, None, unwrap_or, inl, inr, refl, sym, ap, ap₂, ◌∙◌, subst, arith, length-append}
+use Rattle.std.proofs.Common.{◌≡◌, ℕ, ◌+◌, ◌*◌, ◌-◌, ◌<◌, ◌≤◌, ◌^◌, min, max, true, List, [], ◌∷◌, ◌++◌, length, slice_get, get_or, Option, Some, unwrap_or, inl, inr, refl, sym, ap, ◌∙◌, subst, arith, length-append}
 use Rattle.std.proofs.Math.Nat.{mul-le-mul_left, min-eq_left}
 use Rattle.std.proofs.lemmas.Bool.{cases_lt}
 use Rattle.og_types.specs.declared.TypeId.{TypeId}
@@ -43,13 +43,13 @@ at_least a m h = omega (arith, mul-le-mul_left a h)
 
 times_capped : (a m : ℕ) → 1 ≤ m → min (1 + min a 65537 * m) 65537 ≡ min (1 + a * m) 65537
 times_capped a m h = elim (cases_lt 65537 a) [
-    inr le ↦ ap (λ (k : ℕ). min (1 + k * m) 65537) (min-eq_left le)
+  | inr le ↦ ap (λ (k : ℕ). min (1 + k * m) 65537) (min-eq_left le)
   | inl gt ↦
-    let few : 65537 ≤ 65537 * m = at_least 65537 m h in
-    let many : a ≤ a * m = at_least a m h in
-    let cut : min a 65537 ≡ 65537 = omega (arith, gt) in
-    ap (λ (k : ℕ). min (1 + k * m) 65537) cut ∙ omega (arith, few, many, gt)
-  ]
+      let few : 65537 ≤ 65537 * m = at_least 65537 m h in
+      let many : a ≤ a * m = at_least a m h in
+      let cut : min a 65537 ≡ 65537 = omega (arith, gt) in
+      ap (λ (k : ℕ). min (1 + k * m) 65537) cut ∙ omega (arith, few, many, gt)
+]
 
 -- the cells of a type are counted by the counts of those that it refers to
 pub cells_capped : (n : ℕ) (f g : TypeId → ℕ) → AgreeCapped n f g → (t : Option Sort) → Below n t
@@ -104,19 +104,19 @@ module _ (types : List Sort) (measures : List Measure) (kept : IsKept types meas
   depth_here =
       is.depth ∙ depth_by_measures types measures kept t refers
       ∙ sym (depth_behind (length types) types (types ++ t ∷ []) (tables_are_downward types table) (same_below types (t ∷ [])) here
-        ∙ ap (depth_of_sort (depth types)) last)
+      ∙ ap (depth_of_sort (depth types)) last)
 
   cells_here : m.cells ≡ cells (types ++ t ∷ []) (record { 0 = length types })
   cells_here =
       is.cells ∙ cells_capped (length types) (cells_in measures) (all_cells types) (counts types measures kept) (Some t) refers
       ∙ sym (ap capped (all_cells_behind (length types) types (types ++ t ∷ []) (tables_are_downward types table) (same_below types (t ∷ [])) here
-        ∙ ap (cells_of_sort (all_cells types)) last))
+      ∙ ap (cells_of_sort (all_cells types)) last))
 
   supported_here : m.supported ≡ is_supported (types ++ t ∷ []) (record { 0 = length types })
   supported_here =
       is.supported ∙ supported_same (length types) (supported_in measures) (is_supported types) (supports types measures kept) (Some t) refers
       ∙ sym (is_supported_behind (length types) types (types ++ t ∷ []) (tables_are_downward types table) (same_below types (t ∷ [])) here
-        ∙ ap (is_supported_sort (is_supported types)) last)
+      ∙ ap (is_supported_sort (is_supported types)) last)
 
   measure_here : m ≡ measure (types ++ t ∷ []) (record { 0 = length types })
   measure_here = λ i. record { depth = depth_here i; cells = cells_here i; supported = supported_here i }
@@ -129,26 +129,26 @@ module _ (types : List Sort) (measures : List Measure) (kept : IsKept types meas
       λ i. record {
         depth = depth_stays (length types) types (types ++ t ∷ []) d s id b i;
         cells = min (all_cells_stay (length types) types (types ++ t ∷ []) d s id b i) many_cells;
-        supported = is_supported_stays (length types) types (types ++ t ∷ []) d s id b i
+        supported = is_supported_stays (length types) types (types ++ t ∷ []) d s id b i;
       }
 
   each_more : (n : ℕ) → n < length (types ++ t ∷ []) → slice_get (measures ++ m ∷ []) n ≡ Some (measure (types ++ t ∷ []) (record { 0 = n }))
   each_more n b = elim (cases_lt n (length types)) [
-      inl lt ↦
+    | inl lt ↦
         sym (same_below measures (m ∷ []) n (omega (arith, kept.as_many, lt)))
         ∙ kept.each n lt ∙ ap Some (measure_stays (record { 0 = n }) lt)
     | inr ge ↦
-      let at : n ≡ length types = omega (arith, length-append types (t ∷ []), ge, b) in
-      ap (slice_get (measures ++ m ∷ [])) (at ∙ sym kept.as_many) ∙ last_is measures m
-      ∙ ap Some (measure_here ∙ ap (λ (k : ℕ). measure (types ++ t ∷ []) (record { 0 = k })) (sym at))
-    ]
+        let at : n ≡ length types = omega (arith, length-append types (t ∷ []), ge, b) in
+        ap (slice_get (measures ++ m ∷ [])) (at ∙ sym kept.as_many) ∙ last_is measures m
+        ∙ ap Some (measure_here ∙ ap (λ (k : ℕ). measure (types ++ t ∷ []) (record { 0 = k })) (sym at))
+  ]
 
   pub kept_more : length types < 2 ^ 32 - 1 → IsKept (types ++ t ∷ []) (measures ++ m ∷ [])
   kept_more few = record {
     table = still_table types t table may;
     few = omega (arith, length-append types (t ∷ []));
     as_many = omega (arith, length-append types (t ∷ []), length-append measures (m ∷ []), kept.as_many);
-    each = each_more
+    each = each_more;
   }
 
 -- ---- what is read of a table
@@ -188,4 +188,4 @@ kept_both types now measures read t m types' measures' kept s r may few is ts ms
     subst (λ (xs : List Sort). IsKept xs measures') (sym ts)
     (subst (λ (xs : List Measure). IsKept (types ++ t ∷ []) xs) (sym ms)
     (kept_more types measures kept t (subst (λ (xs : List Sort). MayStandBehind xs t) (sym s) may) m
-      (subst (λ (xs : List Measure). IsFurther xs t m) r is) (subst (λ (xs : List Sort). length xs < 2 ^ 32 - 1) (sym s) few)))
+    (subst (λ (xs : List Measure). IsFurther xs t m) r is) (subst (λ (xs : List Sort). length xs < 2 ^ 32 - 1) (sym s) few)))

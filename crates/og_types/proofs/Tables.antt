@@ -1,5 +1,5 @@
 -- The types of a table refer to types of smaller numbers.
-use Rattle.std.proofs.Common.{◌≡◌, ℕ, zero, suc, ◌+◌, ◌<◌, Bool, true, false, ◌&&◌, List, [], ◌∷◌, slice_get, nat_lt, Option, Some, None, refl, sym, ap, ◌∙◌, subst, ltb-true, true≢false, zero-add, arith}
+use Rattle.std.proofs.Common.{◌≡◌, ℕ, zero, suc, ◌+◌, ◌<◌, true, List, [], ◌∷◌, slice_get, nat_lt, Option, Some, None, sym, ap, ◌∙◌, subst, ltb-true, zero-add, arith}
 use Rattle.std.specs.List.{list_all}
 use Rattle.og_types.specs.declared.Part.{Part}
 use Rattle.og_types.specs.declared.Sort.{Sort}

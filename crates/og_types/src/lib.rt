@@ -2,6 +2,7 @@
 #![tactic(auto)]
 
 mod copy;
+pub mod examples;
 mod first;
 pub mod laws;
 mod measures;

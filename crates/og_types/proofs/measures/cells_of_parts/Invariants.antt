@@ -8,4 +8,4 @@ abbrev pub invariant-loop-part : goal.invariant-loop-part
 invariant-loop-part l =
     (l.cells ≤ 65537)
     × Left (λ parts. min (l.cells + cells_of_parts (cells_in l.measures) parts) many_cells) l.parts l.part-index
-      (min (cells_of_parts (cells_in l.measures) l.parts) many_cells)
+    (min (cells_of_parts (cells_in l.measures) l.parts) many_cells)

@@ -5,7 +5,7 @@ use Rattle.og_types.proofs.table.TypeTable.add.Goals as goal
 pub overflow_cast-measure : goal.overflow_cast-measure
 overflow_cast-measure c =
     let shallow : c.depth_of.result ≤ 64 =
-      depth_fits _ _ _ _ c.args.sort _ c.self.invariant c.self.view_is c.as_slice-measures.ensures c.requires.behind c.depth_of.ensures in
+    depth_fits _ _ _ _ c.args.sort _ c.self.invariant c.self.view_is c.as_slice-measures.ensures c.requires.behind c.depth_of.ensures in
     omega arith
 
 pub invariant_of-self-2 : goal.invariant_of-self-2
