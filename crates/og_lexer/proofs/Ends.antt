@@ -5,7 +5,8 @@ use Rattle.std.specs.List.{list_all, prefix_len}
 use Rattle.std.proofs.lemmas.Bool.{and_parts, and_from, eqb-true, eq-eqb, not-true, not_from_true, not_from_false, and_right, cond-true, cond-false, false≢true}
 use Rattle.og_lexer.specs.declared.scan.PairEnd.{PairEnd}
 use Rattle.og_lexer.specs.declared.scan.PairEnd.TheVariants.{Closed, Open}
-use Rattle.og_lexer.specs.Pieces.{begins, lacks_pair, quotes_pair, NotFirst}
+use Rattle.og_lexer.specs.Bytes.{begins}
+use Rattle.og_lexer.specs.Pieces.{lacks_pair, quotes_pair, NotFirst}
 use Rattle.og_lexer.specs.Front.{plus, pair_end, later, quote_end}
 use Rattle.og_lexer.proofs.Scans.{pair_end-on}
 
@@ -13,7 +14,7 @@ same_byte : (x : ℕ) → (x == x) ≡ true
 same_byte x = eq-eqb x x refl
 
 -- a run of bytes that pass a test, and then one that does not
-pub prefix_len-at : (p : ℕ → Bool) (xs ys : List ℕ) → list_all p xs ≡ true → NotFirst p ys → prefix_len p (xs ++ ys) ≡ length xs
+pub prefix_len-at : (p : ℕ → Bool) (xs ys : List ℕ) → list_all p xs ≡ true → NotFirst (λ b bs. p b) ys → prefix_len p (xs ++ ys) ≡ length xs
 prefix_len-at p [] [] all stop = refl
 prefix_len-at p [] (y ∷ ys) all stop = cond-false (p y) (1 + prefix_len p ys) 0 stop
 prefix_len-at p (x ∷ xs) ys all stop =
@@ -26,7 +27,7 @@ pub record IsRun (p : ℕ → Bool) (xs : List ℕ) : Type 0 where
   pub joined : xs ≡ run ++ rest
   pub long : prefix_len p xs ≡ length run
   pub all : list_all p run ≡ true
-  pub stop : NotFirst p rest
+  pub stop : NotFirst (λ b bs. p b) rest
 
 run_more : (p : ℕ → Bool) (x : ℕ) (xs : List ℕ) → (b : Bool) → p x ≡ b → IsRun p xs → IsRun p (x ∷ xs)
 run_more p x xs true passes r = record {
@@ -104,7 +105,7 @@ pub record IsOpen (x y : ℕ) (in_line : Bool) (bytes : List ℕ) (n : ℕ) : Ty
   pub long : n ≡ length inside
   pub lacks : lacks_pair x y inside ≡ true
   pub line : InLine in_line inside
-  pub stop : NotFirst (λ b. not (in_line && (b == 10))) rest
+  pub stop : NotFirst (λ b bs. not (in_line && (b == 10))) rest
 
 -- what the answer of the scan says of the bytes
 abbrev pub PairEndIs : ℕ → ℕ → Bool → List ℕ → PairEnd → Type 0
@@ -164,7 +165,7 @@ pair_end-is x y in_line [] = record { inside = []; rest = []; joined = refl; lon
 pair_end-is x y in_line (b ∷ bs) = pair_step x y in_line b bs (pair_end x y in_line bs) (pair_end-is x y in_line bs) (in_line && (b == 10)) ((b == x) && begins y bs) refl refl
 
 -- apostrophes that stand two by two, and then one alone
-pub quote_end-closed : (inside rest : List ℕ) → quotes_pair inside ≡ true → NotFirst (λ b. b == 39) rest → quote_end true (inside ++ 39 ∷ rest) ≡ Some (length inside + 1)
+pub quote_end-closed : (inside rest : List ℕ) → quotes_pair inside ≡ true → NotFirst (λ b bs. b == 39) rest → quote_end true (inside ++ 39 ∷ rest) ≡ Some (length inside + 1)
 quote_end-closed [] [] pair stop = refl
 quote_end-closed [] (c ∷ rest) pair stop = ap (later 1) (cond-false (c == 39) (later 1 (quote_end true rest)) (Some 0) stop)
 quote_end-closed (b ∷ []) rest pair stop =
@@ -172,7 +173,7 @@ quote_end-closed (b ∷ []) rest pair stop =
 quote_end-closed (b ∷ c ∷ inside) rest pair stop = closed_step b c inside rest (b == 39) refl pair stop
     (λ again. quote_end-closed inside rest again stop) (λ again. quote_end-closed (c ∷ inside) rest again stop)
   where
-    closed_step : (b c : ℕ) (inside rest : List ℕ) (t : Bool) → (b == 39) ≡ t → cond t ((c == 39) && quotes_pair inside) (quotes_pair (c ∷ inside)) ≡ true → NotFirst (λ b. b == 39) rest
+    closed_step : (b c : ℕ) (inside rest : List ℕ) (t : Bool) → (b == 39) ≡ t → cond t ((c == 39) && quotes_pair inside) (quotes_pair (c ∷ inside)) ≡ true → NotFirst (λ b bs. b == 39) rest
         → (quotes_pair inside ≡ true → quote_end true (inside ++ 39 ∷ rest) ≡ Some (length inside + 1))
         → (quotes_pair (c ∷ inside) ≡ true → quote_end true (c ∷ inside ++ 39 ∷ rest) ≡ Some (length (c ∷ inside) + 1))
         → later 1 (quote_end (not t) (c ∷ inside ++ 39 ∷ rest)) ≡ Some (length (b ∷ c ∷ inside) + 1)
@@ -201,7 +202,7 @@ pub record IsEnded (bytes : List ℕ) (n : ℕ) : Type 0 where
   pub joined : bytes ≡ inside ++ 39 ∷ rest
   pub long : n ≡ length inside + 1
   pub pair : quotes_pair inside ≡ true
-  pub stop : NotFirst (λ b. b == 39) rest
+  pub stop : NotFirst (λ b bs. b == 39) rest
 
 -- what the answer of the scan says of the bytes
 abbrev pub QuoteEndIs : List ℕ → Option ℕ → Type 0

@@ -55,6 +55,11 @@ is_word b = is_word_class (class_of b)
 abbrev pub is_digit : ℕ → Bool
 is_digit b = is_digit_class (class_of b)
 
+-- whether the list begins with the byte
+abbrev pub begins : ℕ → List ℕ → Bool
+begins x [] = false
+begins x (b ∷ bs) = b == x
+
 -- the number of decimal digits that stand behind the digits of n
 abbrev pub number_from : ℕ → List ℕ → ℕ
 number_from n [] = n

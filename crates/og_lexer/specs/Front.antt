@@ -1,5 +1,5 @@
--- What stands in front of a text, as the reader computes it: the form and length of the piece there, or the rule that is
--- violated there. Pieces says the same by cases on whole texts (Z.101 clause 6.1); laws on the public calls tie the two.
+-- What stands in front of a text of SDL/PR, as the reader computes it: the form and length of the piece there, or the rule that
+-- is violated there. Pieces says the same by cases on whole texts (Z.101 clause 6.1); laws on the public calls tie the two.
 use Rattle.std.specs.Prelude.{ℕ, ◌+◌, ◌^◌, Bool, true, false, not, ◌&&◌, List, [], ◌∷◌, map, take, Option, Some, None, Result, Ok, Err, option_map, if◌then◌else◌, nat_lt, ◌==◌}
 use Rattle.std.specs.List.{prefix_len}
 use Rattle.std.specs.Str.{bytes_eq}
@@ -17,9 +17,8 @@ use Rattle.og_lexer.specs.declared.front.Front.{Front}
 use Rattle.og_lexer.specs.declared.words.TheConstants.{KEYWORDS}
 use Rattle.og_lexer.specs.declared.scan.PairEnd.{PairEnd}
 use Rattle.og_lexer.specs.declared.scan.PairEnd.TheVariants.{Closed, Open}
-use Rattle.og_lexer.specs.Bytes.{class_of, is_word, is_digit, number_of}
+use Rattle.og_lexer.specs.Bytes.{class_of, is_word, is_digit, begins, number_of}
 use Rattle.og_lexer.specs.Keywords.{keyword_text}
-use Rattle.og_lexer.specs.Pieces.{begins}
 
 -- n more bytes
 abbrev pub plus : ℕ → PairEnd → PairEnd
@@ -48,10 +47,10 @@ quote_end false [] = Some 0
 quote_end true (b ∷ bs) = later 1 (quote_end (not (b == 39)) bs)
 quote_end false (b ∷ bs) = if b == 39 then later 1 (quote_end true bs) else Some 0
 
--- the first of the keywords that is spelt like the word in capitals
-abbrev pub keyword_in : List Keyword → List ℕ → Option Keyword
-keyword_in [] capitals = None
-keyword_in (k ∷ ks) capitals = if bytes_eq capitals (keyword_text k) then Some k else keyword_in ks capitals
+-- the first of the keywords, which are spelt so, that is spelt like the word
+abbrev pub keyword_in : {K : Type 0} → (K → List ℕ) → List K → List ℕ → Option K
+keyword_in spelling [] word = None
+keyword_in spelling (k ∷ ks) word = if bytes_eq word (spelling k) then Some k else keyword_in spelling ks word
 
 -- the form of a word
 abbrev pub word_shape : Option Keyword → Shape
@@ -63,7 +62,7 @@ found shape len = Ok (record { shape = shape; len = len })
 
 -- a word that begins with these many bytes
 abbrev pub word_found : ℕ → List ℕ → Result Front Rule
-word_found len bytes = if nat_lt 64 len then Err L3 else found (word_shape (keyword_in KEYWORDS (map to_ascii_uppercase (take len bytes)))) len
+word_found len bytes = if nat_lt 64 len then Err L3 else found (word_shape (keyword_in keyword_text KEYWORDS (map to_ascii_uppercase (take len bytes)))) len
 
 abbrev pub number_found : ℕ → List ℕ → Result Front Rule
 number_found len bytes = if nat_lt (2 ^ 63) (number_of (take len bytes)) then Err L4 else found Digits len

@@ -1,7 +1,12 @@
 pub mod Bytes
 pub mod Keywords
+pub mod AsnBytes
+pub mod AsnKeywords
+pub mod AsnPieces
 pub mod Pieces
 pub mod Places
 pub mod Texts
 pub mod Front
+pub mod AsnFront
 pub mod Examples
+pub mod AsnExamples

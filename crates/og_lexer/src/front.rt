@@ -4,7 +4,7 @@ ghost use Rattle.og_lexer.specs.Front.{found, front_of, word_found, number_found
 
 use crate::scan::{PairEnd, digits_len, number_value, pair_end, quote_end, word_len};
 use crate::words::{Class, class_of, keyword_of};
-use crate::{Keyword, Mark};
+use crate::{AsnKeyword, AsnMark, Keyword, Mark};
 use og_base::Rule;
 
 /// The form of a piece of a text.
@@ -12,7 +12,7 @@ use og_base::Rule;
 pub enum Shape {
     /// One byte of white space.
     Space,
-    /// `/* .. */`
+    /// `/* .. */`, in ASN.1 with such comments inside it.
     BlockComment,
     /// `-- .. --`
     DashComment,
@@ -20,9 +20,16 @@ pub enum Shape {
     LineComment,
     Name,
     Reserved(Keyword),
+    AsnReserved(AsnKeyword),
     Digits,
+    /// `'..'`
     Quoted,
+    /// `".."` of ASN.1.
+    Quotation,
+    /// `'..'H` or `'..'B` of ASN.1.
+    Coded,
     Sign(Mark),
+    AsnSign(AsnMark),
 }
 
 /// The piece in front of a text.
@@ -32,7 +39,7 @@ pub struct Front {
     pub len: usize,
 }
 
-/// The piece in front of the bytes, the longest that stands there; or the rule that is violated at the first byte.
+/// The piece of SDL/PR in front of the bytes, the longest that stands there; or the rule that is violated at the first byte.
 #[tactic(auto, unfolding(crate::specs::Front::front_of))]
 pub fn front_of(bytes: &[u8]) -> Result<Front, Rule>
     requires { 0 < length bytes.now }
@@ -66,7 +73,7 @@ fn word_front(len: usize, bytes: &[u8]) -> Result<Front, Rule>
     Ok(Front { shape, len })
 }
 
-fn number_front(len: usize, bytes: &[u8]) -> Result<Front, Rule>
+pub fn number_front(len: usize, bytes: &[u8]) -> Result<Front, Rule>
     requires { len ≤ length bytes.now }
     ensures { result ≡ number_found len bytes.now }
 {
@@ -130,7 +137,7 @@ fn block_front(end: PairEnd) -> Result<Front, Rule>
     }
 }
 
-fn dash_front(end: PairEnd) -> Result<Front, Rule>
+pub fn dash_front(end: PairEnd) -> Result<Front, Rule>
     requires { end_len end + 2 < 2 ^ 64 }
     ensures { result ≡ dash_found end }
 {

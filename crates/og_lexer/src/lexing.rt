@@ -2,19 +2,22 @@ ghost use Rattle.std.specs.Prelude.{◌≡◌, ℕ, ◌+◌, ◌-◌, ◌^◌, �
 ghost use Rattle.og_lexer.specs.declared.Spanned.{Spanned};
 ghost use Rattle.og_lexer.specs.declared.Comment.{Comment};
 ghost use Rattle.og_lexer.specs.Places.{place_after};
-ghost use Rattle.og_lexer.specs.Pieces.{IsOf, IsWithin};
-ghost use Rattle.og_lexer.specs.Texts.{Lexes, Refuses, AreInPlace, AreCommentsInPlace, EndsOnce, GainsPiece, token_of};
+ghost use Rattle.og_lexer.specs.Pieces.{HasQuotes, IsWithin};
+ghost use Rattle.og_lexer.specs.AsnFront.{front_in};
+ghost use Rattle.og_lexer.specs.declared.Language.TheVariants.{Asn};
+ghost use Rattle.og_lexer.specs.Texts.{Lexes, Refuses, AreInPlace, AreCommentsInPlace, LexesIn, RefusesIn, AreInPlaceIn, AreCommentsInPlaceIn, EndsOnce, GainsPiece, token_of};
 
+use crate::asn_front::asn_front_of;
 use crate::front::{Front, Shape, front_of};
 use crate::scan::number_value;
-use crate::{Comment, Lexed, Spanned, Token};
-use og_base::{ModelError, Place, Violation};
+use crate::{Comment, Language, Lexed, Spanned, Token};
+use og_base::{ModelError, Place, Rule, Violation};
 use og_names::{NoMemory, Word};
 use sqlite_items::Items;
 use std::alloc::Global;
 
-/// Cuts the bytes of a model file into tokens and comments, in time linear in their number. A violation of class L is
-/// reported with the least place; `file` is the number of the file in these places.
+/// Cuts the bytes of a model file of SDL/PR into tokens and comments, in time linear in their number. A violation of class
+/// L is reported with the least place; `file` is the number of the file in these places.
 pub fn lex_sdl(alloc: Global, file: u32, bytes: &[u8]) -> Result<Lexed, ModelError>
     requires { length bytes.now < 2 ^ 32 - 1 }
     // The bytes lex to these tokens and comments.
@@ -29,6 +32,37 @@ pub fn lex_sdl(alloc: Global, file: u32, bytes: &[u8]) -> Result<Lexed, ModelErr
     ensures comments_in_place { IfOk result (λ lexed. AreCommentsInPlace file bytes.now 0 lexed.comments) }
     ensures ends { IfOk result (λ lexed. EndsOnce lexed.tokens) }
 {
+    lex(alloc, Language::Sdl, file, bytes)
+}
+
+/// Cuts the bytes of a file of ASN.1 modules into tokens and comments, as `lex_sdl` does those of a file of SDL/PR.
+pub fn lex_asn(alloc: Global, file: u32, bytes: &[u8]) -> Result<Lexed, ModelError>
+    requires { length bytes.now < 2 ^ 32 - 1 }
+    // The bytes lex to these tokens and comments.
+    ensures found { IfOk result (λ lexed. LexesIn Asn file bytes.now lexed.tokens lexed.comments) }
+    // They lex to no others.
+    ensures only { IfOk result (λ lexed. (tokens : List Spanned) (comments : List Comment) →
+        LexesIn Asn file bytes.now tokens comments → (tokens ≡ lexed.tokens) × (comments ≡ lexed.comments)) }
+    // A violation is the first of class L, and then the bytes lex to nothing.
+    ensures broken { IfErr result (RefusesIn Asn file bytes.now) }
+    // Each token and comment stands at its bytes and its place, in the order of the file, and End behind all of them.
+    ensures tokens_in_place { IfOk result (λ lexed. AreInPlaceIn Asn file bytes.now 0 lexed.tokens) }
+    ensures comments_in_place { IfOk result (λ lexed. AreCommentsInPlaceIn Asn file bytes.now 0 lexed.comments) }
+    ensures ends { IfOk result (λ lexed. EndsOnce lexed.tokens) }
+{
+    lex(alloc, Language::Asn, file, bytes)
+}
+
+fn lex(alloc: Global, language: Language, file: u32, bytes: &[u8]) -> Result<Lexed, ModelError>
+    requires { length bytes.now < 2 ^ 32 - 1 }
+    ensures found { IfOk result (λ lexed. LexesIn language file bytes.now lexed.tokens lexed.comments) }
+    ensures only { IfOk result (λ lexed. (tokens : List Spanned) (comments : List Comment) →
+        LexesIn language file bytes.now tokens comments → (tokens ≡ lexed.tokens) × (comments ≡ lexed.comments)) }
+    ensures broken { IfErr result (RefusesIn language file bytes.now) }
+    ensures tokens_in_place { IfOk result (λ lexed. AreInPlaceIn language file bytes.now 0 lexed.tokens) }
+    ensures comments_in_place { IfOk result (λ lexed. AreCommentsInPlaceIn language file bytes.now 0 lexed.comments) }
+    ensures ends { IfOk result (λ lexed. EndsOnce lexed.tokens) }
+{
     let mut lexed = Lexed {
         tokens: Items::new(alloc),
         comments: Items::new(alloc),
@@ -41,7 +75,7 @@ pub fn lex_sdl(alloc: Global, file: u32, bytes: &[u8]) -> Result<Lexed, ModelErr
     let mut at = 0;
     while at < bytes.len() {
         let (_, rest) = bytes.split_at(at);
-        let front = match front_of(rest) {
+        let front = match front_in(language, rest) {
             Ok(front) => front,
             Err(rule) => return Err(ModelError::Broken(Violation { rule, place })),
         };
@@ -62,6 +96,17 @@ pub fn lex_sdl(alloc: Global, file: u32, bytes: &[u8]) -> Result<Lexed, ModelErr
     Ok(lexed)
 }
 
+/// The piece in front of the bytes, the longest of the language that stands there; or the rule that is violated there.
+fn front_in(language: Language, bytes: &[u8]) -> Result<Front, Rule>
+    requires { 0 < length bytes.now }
+    ensures { result ≡ front_in language bytes.now }
+{
+    match language {
+        Language::Sdl => front_of(bytes),
+        Language::Asn => asn_front_of(bytes),
+    }
+}
+
 /// Keeps a piece that stands at the byte `at`: a token or a comment. White space is dropped.
 fn keep(
     alloc: Global,
@@ -72,7 +117,7 @@ fn keep(
     at: usize,
 ) -> Result<(), NoMemory>
     requires room { at + length text.now < 2 ^ 32 }
-    requires form { IsOf shape text.now × IsWithin shape text.now }
+    requires form { HasQuotes shape text.now × IsWithin shape text.now }
     ensures { OnOk result (GainsPiece lexed.old lexed.new shape text.now place at) }
 {
     let start = at as u32;
@@ -94,7 +139,7 @@ fn keep(
 
 /// The token that a piece is.
 fn token_of(alloc: Global, shape: Shape, text: &[u8]) -> Result<Option<Token>, NoMemory>
-    requires { IsOf shape text.now × IsWithin shape text.now }
+    requires { HasQuotes shape text.now × IsWithin shape text.now }
     ensures { IfOk result (λ token. token ≡ token_of shape text.now) }
 {
     let token = match shape {
@@ -103,9 +148,12 @@ fn token_of(alloc: Global, shape: Shape, text: &[u8]) -> Result<Option<Token>, N
         }
         Shape::Name => Token::Name(word(alloc, text)?),
         Shape::Reserved(keyword) => Token::Keyword(keyword),
+        Shape::AsnReserved(keyword) => Token::AsnKeyword(keyword),
         Shape::Digits => Token::Number(number_value(text)),
-        Shape::Quoted => Token::Text(word(alloc, &text[1..text.len() - 1])?),
+        Shape::Quoted | Shape::Quotation => Token::Text(word(alloc, &text[1..text.len() - 1])?),
+        Shape::Coded => Token::Text(word(alloc, &text[1..text.len() - 2])?),
         Shape::Sign(mark) => Token::Mark(mark),
+        Shape::AsnSign(mark) => Token::AsnMark(mark),
     };
     Ok(Some(token))
 }

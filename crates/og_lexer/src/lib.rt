@@ -1,18 +1,30 @@
-//! Tokens of SDL/PR (Z.101 clause 6.1, lexical rules; Z.106 for the textual form): the bytes of a model file are cut
-//! into names, keywords, numbers, texts and marks, and the file's comments are kept aside for their CIF boxes.
+//! Tokens of SDL/PR (Z.101 clause 6.1, lexical rules; Z.106 for the textual form) and of ASN.1 (X.680 clause 12): the
+//! bytes of a model file are cut into names, keywords, numbers, texts and marks, and the file's comments are kept aside
+//! for their CIF boxes.
 #![tactic(auto)]
 
+mod asn_front;
+mod asn_words;
 mod front;
 mod laws;
 mod lexing;
 mod scan;
 mod words;
 
-pub use laws::{examples, front_lexes, one_front, one_reading};
-pub use lexing::lex_sdl;
+pub use laws::{asn_examples, examples, front_lexes, one_asn_reading, one_front, one_reading};
+pub use lexing::{lex_asn, lex_sdl};
 use og_base::Place;
 use og_names::Word;
 use sqlite_items::Items;
+
+/// A language of model files.
+#[derive(Clone, Copy, Debug, PartialEq, Eq)]
+pub enum Language {
+    /// SDL/PR.
+    Sdl,
+    /// ASN.1.
+    Asn,
+}
 
 /// A word of SDL/PR that no name may be spelt like. In a text it stands in any case.
 #[derive(Clone, Copy, Debug, PartialEq, Eq)]
@@ -104,8 +116,81 @@ pub enum Mark {
     GreaterOrEqual,
 }
 
-/// A token. A name and a text hold the bytes as written; those of a text are the ones between its outer quotes, where
-/// a quote stands twice.
+/// A word of ASN.1 that no name may be spelt like. In a text it stands in capitals.
+#[derive(Clone, Copy, Debug, PartialEq, Eq)]
+pub enum AsnKeyword {
+    Automatic,
+    Begin,
+    Bit,
+    Boolean,
+    Choice,
+    Default,
+    Definitions,
+    End,
+    Enumerated,
+    Explicit,
+    Exports,
+    False,
+    From,
+    Identifier,
+    Implicit,
+    Imports,
+    Integer,
+    Null,
+    Object,
+    Octet,
+    Of,
+    Optional,
+    Real,
+    Sequence,
+    Set,
+    Size,
+    String,
+    Tags,
+    True,
+}
+
+/// A mark of ASN.1: `::=`, `..`, `...`, and each byte from 33 to 126 that is no letter, no digit and begins no text, in
+/// their order.
+#[derive(Clone, Copy, Debug, PartialEq, Eq)]
+pub enum AsnMark {
+    Assign,
+    Range,
+    Ellipsis,
+    Exclamation,
+    Number,
+    Dollar,
+    Percent,
+    Ampersand,
+    LeftParenthesis,
+    RightParenthesis,
+    Asterisk,
+    Plus,
+    Comma,
+    Hyphen,
+    FullStop,
+    Solidus,
+    Colon,
+    Semicolon,
+    Less,
+    Equal,
+    Greater,
+    Question,
+    At,
+    LeftBracket,
+    ReverseSolidus,
+    RightBracket,
+    Circumflex,
+    Underline,
+    Grave,
+    LeftBrace,
+    VerticalBar,
+    RightBrace,
+    Tilde,
+}
+
+/// A token. A name and a text hold the bytes as written; those of a text are the ones between its outer quotes. In SDL/PR
+/// a quote between them stands twice; in ASN.1 there is none, and a letter behind the quotes is no part of the text.
 #[derive(Debug, Drop)]
 pub enum Token {
     Name(Word),
@@ -113,6 +198,8 @@ pub enum Token {
     Number(u64),
     Text(Word),
     Mark(Mark),
+    AsnKeyword(AsnKeyword),
+    AsnMark(AsnMark),
     /// The end of the file.
     End,
 }

@@ -214,13 +214,13 @@ fn is_spelt(word: &[u8], capitals: &[u8]) -> bool
 
 /// The keyword that the word is.
 pub fn keyword_of(word: &[u8]) -> Option<Keyword>
-    ensures { result ≡ keyword_in KEYWORDS (map to_ascii_uppercase word.now) }
+    ensures { result ≡ keyword_in keyword_text KEYWORDS (map to_ascii_uppercase word.now) }
 {
     keyword_among(&KEYWORDS, word)
 }
 
 fn keyword_among(keywords: &[Keyword], word: &[u8]) -> Option<Keyword>
-    ensures { result ≡ keyword_in keywords.now (map to_ascii_uppercase word.now) }
+    ensures { result ≡ keyword_in keyword_text keywords.now (map to_ascii_uppercase word.now) }
 {
     for keyword in keywords {
         if is_spelt(word, keyword_text(*keyword)) {
