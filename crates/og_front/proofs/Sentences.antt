@@ -57,6 +57,8 @@ keyword_is word (token.Name x) e = absurd cc
 keyword_is word (token.Number x) e = absurd cc
 keyword_is word (token.Text x) e = absurd cc
 keyword_is word (token.Mark x) e = absurd cc
+keyword_is word (token.AsnKeyword x) e = absurd cc
+keyword_is word (token.AsnMark x) e = absurd cc
 keyword_is word token.End e = absurd cc
 
 mark_is : (mark : Mark) (t : Token) → is_fixed (fixed.Mark mark) t ≡ true → t ≡ token.Mark mark
@@ -66,6 +68,8 @@ mark_is mark (token.Name x) e = absurd cc
 mark_is mark (token.Number x) e = absurd cc
 mark_is mark (token.Text x) e = absurd cc
 mark_is mark (token.Keyword x) e = absurd cc
+mark_is mark (token.AsnKeyword x) e = absurd cc
+mark_is mark (token.AsnMark x) e = absurd cc
 mark_is mark token.End e = absurd cc
 
 end_is : (t : Token) → is_fixed fixed.End t ≡ true → t ≡ token.End
@@ -75,6 +79,8 @@ end_is (token.Number x) e = absurd cc
 end_is (token.Text x) e = absurd cc
 end_is (token.Keyword x) e = absurd cc
 end_is (token.Mark x) e = absurd cc
+end_is (token.AsnKeyword x) e = absurd cc
+end_is (token.AsnMark x) e = absurd cc
 
 -- ---- one token
 
@@ -120,6 +126,8 @@ name = one front 0 Keeps name_in (λ x. Named x)
     name_shown (token.Text x) e = absurd cc
     name_shown (token.Keyword x) e = absurd cc
     name_shown (token.Mark x) e = absurd cc
+    name_shown (token.AsnKeyword x) e = absurd cc
+    name_shown (token.AsnMark x) e = absurd cc
     name_shown token.End e = absurd cc
 
 last : Reads front (symbol.Token LAST Keeps ∷ []) dropped (λ x. Last ∷ [])
