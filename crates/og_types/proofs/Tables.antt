@@ -1,5 +1,5 @@
 -- The types of a table refer to types of smaller numbers.
-use Rattle.std.proofs.Common.{◌≡◌, ℕ, zero, suc, ◌+◌, ◌<◌, Bool, true, false, ◌&&◌, List, [], ◌∷◌, slice_get, nat_lt, Option, Some, None, refl, sym, ap, subst, ltb-true, true≢false, zero-add, arith}
+use Rattle.std.proofs.Common.{◌≡◌, ℕ, zero, suc, ◌+◌, ◌<◌, true, List, [], ◌∷◌, slice_get, nat_lt, Option, Some, None, sym, ap, ◌∙◌, subst, ltb-true, zero-add, arith}
 use Rattle.std.specs.List.{list_all}
 use Rattle.og_types.specs.declared.Part.{Part}
 use Rattle.og_types.specs.declared.Sort.{Sort}
@@ -11,11 +11,11 @@ use Rattle.og_names.proofs.Truths.{both_first as both_left, both_second as both_
 is_below : (a b : ℕ) → nat_lt a b ≡ true → a < b
 is_below a b e = ltb-true a b e
 
-parts_below : (n : ℕ) (ps : List Part) → list_all (λ (p : Part). nat_lt p.sort.0 n) ps ≡ true → PartsBelow n ps
+pub parts_below : (n : ℕ) (ps : List Part) → list_all (λ (p : Part). nat_lt p.sort.0 n) ps ≡ true → PartsBelow n ps
 parts_below n [] e = tt
 parts_below n (p ∷ ps) e = (is_below p.sort.0 n (both_left _ _ e), parts_below n ps (both_right _ _ e))
 
-refers_below : (n : ℕ) (t : Sort) → is_sort_after n t ≡ true → RefersBelow n t
+pub refers_below : (n : ℕ) (t : Sort) → is_sort_after n t ≡ true → RefersBelow n t
 refers_below n (Sorts.Sequence ps) e = parts_below n ps (both_left _ _ e)
 refers_below n (Sorts.Choice ps) e = parts_below n ps (both_left _ _ (both_right _ _ e))
 refers_below n (Sorts.SeqOf lo hi item) e = is_below item.0 n (both_right _ _ (both_right _ _ e))
@@ -37,15 +37,19 @@ at_end n = omega arith
 one_on : (n k : ℕ) → suc n + k ≡ n + suc k
 one_on n k = omega arith
 
-sorts_below : (types : List Sort) (n : ℕ) (ts : List Sort) → are_sorts_from types n ts ≡ true → (k : ℕ) (t : Sort) → slice_get ts k ≡ Some t → RefersBelow (n + k) t
-sorts_below types n [] h k t e = absurd (none_some e)
+sorts_after : (types : List Sort) (n : ℕ) (ts : List Sort) → are_sorts_from types n ts ≡ true → (k : ℕ) (t : Sort) → slice_get ts k ≡ Some t → is_sort_after (n + k) t ≡ true
+sorts_after types n [] h k t e = absurd (none_some e)
   where
     none_some : {x : Sort} → None ≡ Some x → ⊥
     none_some e = cc
-sorts_below types n (x ∷ xs) h zero t e =
-    subst (λ (m : ℕ). RefersBelow m t) (at_end n) (subst (RefersBelow n) (some_same x t e) (refers_below n x (both_left _ _ h)))
-sorts_below types n (x ∷ xs) h (suc k) t e =
-    subst (λ (m : ℕ). RefersBelow m t) (one_on n k) (sorts_below types (suc n) xs (both_right _ _ (both_right _ _ h)) k t e)
+sorts_after types n (x ∷ xs) h zero t e =
+    subst (λ (m : ℕ). is_sort_after m t ≡ true) (at_end n) (ap (is_sort_after n) (sym (some_same x t e)) ∙ both_left _ _ h)
+sorts_after types n (x ∷ xs) h (suc k) t e =
+    subst (λ (m : ℕ). is_sort_after m t ≡ true) (one_on n k) (sorts_after types (suc n) xs (both_right _ _ (both_right _ _ h)) k t e)
+
+-- each type of a table may stand where it stands
+pub sort_after : (types : List Sort) → is_table types ≡ true → (n : ℕ) (t : Sort) → slice_get types n ≡ Some t → is_sort_after n t ≡ true
+sort_after types h n t e = subst (λ (m : ℕ). is_sort_after m t ≡ true) (zero-add n) (sorts_after types 0 types h n t e)
 
 pub tables_are_downward : (types : List Sort) → is_table types ≡ true → IsDownward types
-tables_are_downward types h n t e = subst (λ (m : ℕ). RefersBelow m t) (zero-add n) (sorts_below types 0 types h n t e)
+tables_are_downward types h n t e = refers_below n t (sort_after types h n t e)

@@ -1,7 +1,7 @@
 -- Which lists of types are tables of types. The types are those of a subset of ASN.1 (X.680 sections 18 to 20, 25, 26 and 29). A type
 -- refers to smaller numbers only, so no type holds itself. The limits on depth, on the length of sequences of items and on
 -- the range of numbers are this project's own.
-use Rattle.std.specs.Prelude.{ℕ, zero, suc, ◌+◌, Bool, true, false, not, ◌&&◌, List, [], ◌∷◌, length, max, slice_get, ℤ, pos, negsuc, int_le, nat_lt, nat_le, nat_eq, Option, Some}
+use Rattle.std.specs.Prelude.{◌≤◌, IsTrue, ℕ, zero, suc, ◌+◌, Bool, true, false, not, ◌&&◌, List, [], ◌∷◌, length, max, slice_get, ℤ, pos, negsuc, int_le, nat_lt, nat_le, nat_eq, Option, Some}
 use Rattle.std.specs.List.{list_all, list_any}
 use Rattle.std.specs.Ordering.{int_eq}
 use Rattle.og_names.specs.declared.NameId.{NameId}
@@ -79,3 +79,8 @@ are_sorts_from types n (t ∷ ts) =
 -- each type refers to earlier ones and is at most 64 deep
 abbrev pub is_table : List Sort → Bool
 is_table types = are_sorts_from types 0 types
+
+-- a further type that refers to types of the table, and with which none is too deep
+pub record MayStandBehind (types : List Sort) (t : Sort) : Type 0 where
+  pub sort : IsTrue (is_sort_after (length types) t)
+  pub depth : depth_of_sort (depth types) (Some t) ≤ 64

@@ -111,6 +111,28 @@ all_cells types id = cells_within (suc id.0) types id
 abbrev pub cells : List Sort → TypeId → ℕ
 cells types id = min (all_cells types id) many_cells
 
+-- ---- what is supported
+
+-- none of the types that it needs is opaque
+abbrev pub is_supported_sort : (TypeId → Bool) → Option Sort → Bool
+is_supported_sort inside (Some (Sorts.Int lo hi)) = true
+is_supported_sort inside (Some Sorts.Bool) = true
+is_supported_sort inside (Some (Sorts.Enumerated names numbers)) = true
+is_supported_sort inside (Some (Sorts.Sequence parts)) = list_all (λ (p : Part). inside p.sort) parts
+is_supported_sort inside (Some (Sorts.Choice parts)) = list_all (λ (p : Part). inside p.sort) parts
+is_supported_sort inside (Some (Sorts.SeqOf lo hi item)) = inside item
+is_supported_sort inside (Some Sorts.Opaque) = false
+is_supported_sort inside None = false
+
+-- type n is supported, for n below the depth
+abbrev pub is_supported_within : ℕ → List Sort → TypeId → Bool
+is_supported_within zero types id = false
+is_supported_within (suc depth) types id = is_supported_sort (is_supported_within depth types) (slice_get types id.0)
+
+-- neither the type nor one that it needs is opaque
+abbrev pub is_supported : List Sort → TypeId → Bool
+is_supported types id = is_supported_within (suc id.0) types id
+
 -- ---- tables
 
 -- components of types of smaller numbers

@@ -70,7 +70,8 @@ impl TypeTable {
         ensures { IfOk result (λ table. table ≡ self.now) }
     {
         let sorts = copy_sorts(alloc, self.sorts.as_slice())?;
-        Ok(TypeTable { sorts })
+        let measures = Items::from_slice(alloc, self.measures.as_slice())?;
+        Ok(TypeTable { sorts, measures })
     }
 }
 

@@ -1,15 +1,16 @@
 //! Types of data after ASN.1 (X.680), and the values of these types.
 #![tactic(auto)]
 
-ghost use Rattle.std.specs.Prelude.{◌≡◌, []};
-
 mod copy;
+pub mod examples;
+mod first;
 pub mod laws;
+mod measures;
+mod table;
 
 use og_names::NameId;
 use sqlite_items::{Boxed, Items};
-use std::alloc::Global;
-use std::marker::Model;
+pub use table::TypeTable;
 
 /// The number of a type in its table, counted from 0.
 #[derive(Clone, Copy, Debug, PartialEq, Eq)]
@@ -64,37 +65,4 @@ pub enum Value {
     /// The place of the alternative, counted from 0, and its value.
     Choice(u32, Boxed<Value>),
     SeqOf(Items<Value>),
-}
-
-/// The types of a model, by their numbers.
-#[derive(Debug, Drop)]
-pub struct TypeTable {
-    sorts: Items<Sort>,
-}
-
-impl Model for TypeTable {
-    ghost use Rattle.std.specs.Prelude.{List};
-    ghost use Rattle.og_types.specs.declared.Sort.{Sort};
-
-    ghost Value = { List Sort };
-
-    ghost view = { λ t. t.sorts };
-}
-
-impl TypeTable {
-    /// A table without types.
-    pub fn new(alloc: Global) -> TypeTable
-        ensures { result ≡ [] }
-    {
-        TypeTable {
-            sorts: Items::new(alloc),
-        }
-    }
-
-    /// The types, one after the other.
-    pub fn as_slice(&self) -> &[Sort]
-        ensures { result.now ≡ self.now }
-    {
-        self.sorts.as_slice()
-    }
 }
