@@ -1,7 +1,8 @@
 -- The scans of ASN.1 against the definitions by cases: where a name and a comment with comments inside it end.
-use Rattle.std.proofs.Common.{◌≡◌, ℕ, zero, suc, ◌+◌, Bool, true, false, ◌&&◌, ◌||◌, cond, List, [], ◌∷◌, ◌++◌, length, refl, sym, ap, ◌∙◌, subst, arith, append_assoc, length-append}
+use Rattle.std.proofs.Common.{◌≡◌, ℕ, zero, suc, ◌+◌, nat_eq, Bool, true, false, ◌&&◌, ◌||◌, cond, List, [], ◌∷◌, ◌++◌, length, refl, sym, ap, ◌∙◌, subst, arith, append_assoc, length-append}
 use Rattle.std.specs.Prelude.{◌==◌, Option, Some, None}
 use Rattle.std.proofs.lemmas.Bool.{and_parts, and_from, eqb-true, or_from, or_parts, cond-true, cond-false, false≢true}
+use Rattle.std.proofs.lemmas.Bool.Decides.{nat_tests}
 use Rattle.og_lexer.specs.declared.scan.Pair.TheVariants.{Opens, Closes, Neither}
 use Rattle.og_lexer.specs.AsnBytes.{is_alphanumeric, first_is, joins}
 use Rattle.og_lexer.specs.AsnPieces.{all_join, opens_or_closes, IsInside, nothing, byte, comment, IsNested}
@@ -80,6 +81,27 @@ name_more x xs false fails r = record {
 pub name_run : (xs : List ℕ) → IsNameRun xs
 name_run [] = record { run = []; rest = []; joined = refl; long = refl; all = refl; stop = tt }
 name_run (x ∷ xs) = name_more x xs (joins x xs) refl (name_run xs)
+
+same_suc : (m n : ℕ) → nat_eq (1 + m) (suc n) ≡ nat_eq m n
+same_suc m n = by (nat_eq m n) refl
+  where
+    by : (t : Bool) → nat_eq m n ≡ t → nat_eq (1 + m) (suc n) ≡ t
+    by true e = grind (arith, nat_tests)
+    by false e = grind (arith, nat_tests)
+
+not_suc : (n : ℕ) → nat_eq 0 (suc n) ≡ false
+not_suc n = grind (arith, nat_tests)
+
+-- whether all go on with a name, by how many do
+pub all_join-by : (bs : List ℕ) → nat_eq (name_len bs) (length bs) ≡ all_join bs
+all_join-by [] = refl
+all_join-by (b ∷ bs) = by (joins b bs) (all_join-by bs)
+  where
+    by : (t : Bool) → nat_eq (name_len bs) (length bs) ≡ all_join bs → nat_eq (cond t (1 + name_len bs) 0) (length (b ∷ bs)) ≡ (t && all_join bs)
+    by true same = same_suc (name_len bs) (length bs) ∙ same
+    by false same = not_suc (length bs)
+
+pub ruleset all_join_by = all_join-by
 
 -- ---- comments
 

@@ -54,7 +54,7 @@ asn_mark_class-text : (b : ℕ) → MarkText (asn_mark_class b) b
 unfolding asn_mark_class
 asn_mark_class-text b =
     class_step (b == 34) asn.Quotation _ b (eqb-true b 34)
-    (sign_step 33 mark.Exclamation _ b refl (sign_step 35 mark.Number _ b refl (sign_step 36 mark.Dollar _ b refl (sign_step 37 mark.Percent _ b refl
+    (sign_step 33 mark.Exclamation _ b refl (sign_step 35 mark.NumberSign _ b refl (sign_step 36 mark.Dollar _ b refl (sign_step 37 mark.Percent _ b refl
     (sign_step 38 mark.Ampersand _ b refl (sign_step 40 mark.LeftParenthesis _ b refl (sign_step 41 mark.RightParenthesis _ b refl (sign_step 42 mark.Asterisk _ b refl
     (sign_step 43 mark.Plus _ b refl (sign_step 44 mark.Comma _ b refl (sign_step 45 mark.Hyphen _ b refl (sign_step 46 mark.FullStop _ b refl
     (sign_step 47 mark.Solidus _ b refl (sign_step 58 mark.Colon _ b refl (sign_step 59 mark.Semicolon _ b refl (sign_step 60 mark.Less _ b refl

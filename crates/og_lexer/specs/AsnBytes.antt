@@ -15,7 +15,7 @@ unfoldable pub asn_mark_class : ℕ → AsnClass
 asn_mark_class b =
     if b == 34 then Quotation else (
     if b == 33 then Sign mark.Exclamation else (
-    if b == 35 then Sign mark.Number else (
+    if b == 35 then Sign mark.NumberSign else (
     if b == 36 then Sign mark.Dollar else (
     if b == 37 then Sign mark.Percent else (
     if b == 38 then Sign mark.Ampersand else (
@@ -83,7 +83,7 @@ asn_mark_text mark.Assign = 58 ∷ 58 ∷ 61 ∷ []
 asn_mark_text mark.Range = 46 ∷ 46 ∷ []
 asn_mark_text mark.Ellipsis = 46 ∷ 46 ∷ 46 ∷ []
 asn_mark_text mark.Exclamation = 33 ∷ []
-asn_mark_text mark.Number = 35 ∷ []
+asn_mark_text mark.NumberSign = 35 ∷ []
 asn_mark_text mark.Dollar = 36 ∷ []
 asn_mark_text mark.Percent = 37 ∷ []
 asn_mark_text mark.Ampersand = 38 ∷ []

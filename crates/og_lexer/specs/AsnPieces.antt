@@ -1,7 +1,8 @@
 -- Names, comments and texts of ASN.1 (X.680 clause 12). A hyphen stands in a name between letters and digits alone. A comment
 -- may hold further comments, each with its own end. A text ends at the first quote of its kind.
-use Rattle.std.specs.Prelude.{◌≡◌, ℕ, Bool, true, false, not, ◌&&◌, ◌||◌, ◌⊎◌, List, [], ◌∷◌, ◌++◌, IsTrue, ◌==◌}
+use Rattle.std.specs.Prelude.{◌≡◌, ℕ, Bool, true, false, not, ◌&&◌, ◌||◌, ◌⊎◌, List, [], ◌∷◌, ◌++◌, length, nat_lt, IsTrue, ◌==◌}
 use Rattle.std.specs.List.{list_all}
+use Rattle.og_lexer.specs.declared.words.Class.{Class}
 use Rattle.og_lexer.specs.declared.words.Class.TheVariants.{Letter}
 use Rattle.og_lexer.specs.Bytes.{class_of, begins}
 use Rattle.og_lexer.specs.AsnBytes.{joins}
@@ -15,6 +16,15 @@ all_join (b ∷ bs) = joins b bs && all_join bs
 abbrev pub IsHyphenated : List ℕ → Type 0
 IsHyphenated [] = ⊥
 IsHyphenated (b ∷ bs) = (class_of b ≡ Letter) × IsTrue (all_join bs)
+
+abbrev pub is_letter_class : Class → Bool
+is_letter_class Letter = true
+is_letter_class _ = false
+
+-- whether the bytes are spelt like a name, and are at most 64
+abbrev pub is_asn_name : List ℕ → Bool
+is_asn_name [] = false
+is_asn_name (b ∷ bs) = is_letter_class (class_of b) && (all_join bs && nat_lt (length bs) 64)
 
 -- whether the byte before these opens or closes a comment
 abbrev pub opens_or_closes : ℕ → List ℕ → Bool

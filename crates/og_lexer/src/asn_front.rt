@@ -1,10 +1,11 @@
 ghost use Rattle.std.specs.Prelude.{◌≡◌, ◌+◌, ◌^◌, ◌<◌, ◌≤◌, length, IfSome};
 ghost use Rattle.og_lexer.specs.declared.front.Shape.TheVariants.{AsnSign};
+ghost use Rattle.og_lexer.specs.AsnPieces.{all_join, is_asn_name};
 ghost use Rattle.og_lexer.specs.Front.{found};
 ghost use Rattle.og_lexer.specs.AsnFront.{asn_front_of, asn_word_found, quotation_found, quoted_found, nested_found, asn_sign_found};
 
 use crate::AsnMark;
-use crate::asn_words::{AsnClass, asn_class_of, asn_keyword_of};
+use crate::asn_words::{AsnClass, asn_class_of, asn_keyword_of, is_letter};
 use crate::front::{Front, Shape, dash_front, number_front};
 use crate::scan::{digits_len, name_len, nested_end, others_len, pair_end};
 use og_base::Rule;
@@ -117,4 +118,22 @@ fn nested_front(end: Option<usize>) -> Result<Front, Rule>
             len: 2 + len,
         }),
     }
+}
+
+/// Whether bytes are spelt like a name of ASN.1, and are at most 64. Keywords are spelt so too.
+pub fn is_asn_name(bytes: &[u8]) -> bool
+    ensures { result ≡ is_asn_name bytes.now }
+{
+    match bytes {
+        [] => false,
+        [first, rest @ ..] => is_letter(*first) && all_join(rest) && rest.len() < 64,
+    }
+}
+
+/// Whether all the bytes go on with a name.
+#[tactic(auto, using(crate::proofs::AsnEnds::all_join_by))]
+fn all_join(bytes: &[u8]) -> bool
+    ensures { result ≡ all_join bytes.now }
+{
+    name_len(bytes) == bytes.len()
 }

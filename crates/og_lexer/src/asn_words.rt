@@ -1,6 +1,8 @@
 ghost use Rattle.std.specs.Prelude.{◌≡◌};
 ghost use Rattle.og_lexer.specs.AsnBytes.{asn_class_of, asn_mark_class, is_alphanumeric};
 ghost use Rattle.og_lexer.specs.AsnKeywords.{asn_keyword_text};
+ghost use Rattle.og_lexer.specs.AsnPieces.{is_letter_class};
+ghost use Rattle.og_lexer.specs.Bytes.{class_of};
 ghost use Rattle.og_lexer.specs.Front.{keyword_in};
 
 use crate::words::{Class, class_of};
@@ -73,7 +75,7 @@ fn asn_mark_class(byte: u8) -> AsnClass
     match byte {
         b'"' => AsnClass::Quotation,
         b'!' => AsnClass::Sign(AsnMark::Exclamation),
-        b'#' => AsnClass::Sign(AsnMark::Number),
+        b'#' => AsnClass::Sign(AsnMark::NumberSign),
         b'$' => AsnClass::Sign(AsnMark::Dollar),
         b'%' => AsnClass::Sign(AsnMark::Percent),
         b'&' => AsnClass::Sign(AsnMark::Ampersand),
@@ -110,6 +112,12 @@ pub fn is_alphanumeric(byte: u8) -> bool
     ensures { result ≡ is_alphanumeric byte }
 {
     matches!(class_of(byte), Class::Letter | Class::Digit)
+}
+
+pub fn is_letter(byte: u8) -> bool
+    ensures { result ≡ is_letter_class (class_of byte) }
+{
+    matches!(class_of(byte), Class::Letter)
 }
 
 /// The keyword in capitals.

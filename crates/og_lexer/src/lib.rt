@@ -5,12 +5,14 @@
 
 mod asn_front;
 mod asn_words;
+mod copy;
 mod front;
 mod laws;
 mod lexing;
 mod scan;
 mod words;
 
+pub use asn_front::is_asn_name;
 pub use laws::{asn_examples, examples, front_lexes, one_asn_reading, one_front, one_reading};
 pub use lexing::{lex_asn, lex_sdl};
 use og_base::Place;
@@ -158,7 +160,7 @@ pub enum AsnMark {
     Range,
     Ellipsis,
     Exclamation,
-    Number,
+    NumberSign,
     Dollar,
     Percent,
     Ampersand,
