@@ -1,7 +1,7 @@
 //! Calls of the tool over files in memory.
 
 use crate::case::{Case, Shown};
-use crate::escape::{lines_of, show_line, show_lines, text_of};
+use crate::escape::{lines_of, show_line, show_lines, texts_of};
 use og_base::{MemFile, MemSink, MemStore};
 use og_tool::{Status, run_tool};
 use std::alloc::{AllocError, Global};
@@ -60,14 +60,14 @@ fn show_numbered(
     numbers: &[u64],
     out: &mut String,
 ) -> Result<(), AllocError> {
-    let lines = lines_of(alloc, bytes)?;
+    let lines = texts_of(alloc, bytes)?;
     for number in numbers {
         let number = *number as usize;
         match lines.get(number.wrapping_sub(1)) {
             None => write!(out, "{number} is not there\n")?,
             Some(line) => {
                 write!(out, "{number} ")?;
-                show_line("", text_of(line), out)?;
+                show_line("", line, out)?;
             }
         }
     }
@@ -75,12 +75,7 @@ fn show_numbered(
 }
 
 /// Appends how many bytes there are, and so many of the first and of the last lines.
-fn show_ends(
-    alloc: Global,
-    bytes: &[u8],
-    count: u64,
-    out: &mut String,
-) -> Result<(), AllocError> {
+fn show_ends(alloc: Global, bytes: &[u8], count: u64, out: &mut String) -> Result<(), AllocError> {
     let size = bytes.len();
     write!(out, "{size} bytes\n")?;
     let count = count as usize;

@@ -73,12 +73,9 @@ pub fn lines_of(alloc: Global, bytes: &[u8]) -> Result<Vec<&[u8]>, AllocError> {
     bytes.split_inclusive(|byte| *byte == b'\n').collect(alloc)
 }
 
-/// A line without its end.
-pub fn text_of(line: &[u8]) -> &[u8] {
-    match line {
-        [text @ .., b'\n'] => text,
-        _ => line,
-    }
+/// The texts of the lines of bytes. What is behind the last line end is a line too.
+pub fn texts_of(alloc: Global, bytes: &[u8]) -> Result<Vec<&[u8]>, AllocError> {
+    bytes.split(|byte| *byte == b'\n').collect(alloc)
 }
 
 /// Appends bytes in lines as a case file has them: `|` before a line, and `+` before what has no line end behind it.

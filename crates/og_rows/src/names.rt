@@ -1,14 +1,13 @@
 //! Names and their numbers.
 
-use crate::escape::{lines_of, show_line, text_of};
+use crate::escape::{show_line, texts_of};
 use og_names::{NameId, Names};
 use std::alloc::{AllocError, Global};
 
 /// Appends the number that each line gets in one table, and what a copy of the table has.
 pub fn show_names(alloc: Global, text: &[u8], out: &mut String) -> Result<(), AllocError> {
     let mut names = Names::new(alloc);
-    for line in lines_of(alloc, text)? {
-        let line = text_of(line);
+    for line in texts_of(alloc, text)? {
         show_found("before ", names.find(line), out)?;
         if line.len() <= 64 && names.len() < 1000 {
             if let Ok(NameId(number)) = names.add(line) {
