@@ -1,7 +1,7 @@
 //! What a case tries.
 
 /// What a case tries, over its files. The words behind it say over which.
-#[derive(Clone, Copy, Debug, PartialEq, Eq)]
+#[derive(Drop)]
 pub enum Action {
     /// `words WORD ..`: the tool is called with these words.
     Words,

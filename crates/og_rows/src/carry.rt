@@ -21,9 +21,9 @@ pub fn show_case(
     one: &Section<'_>,
     out: &mut String,
 ) -> Result<(), AllocError> {
-    let (name, with) = match one.opening {
-        Opening::With(text) => (text, text),
-        Opening::Case(name) => (name, ""),
+    let (name, with) = match &one.opening {
+        Opening::With(text) => (*text, *text),
+        Opening::Case(name) => (*name, ""),
         Opening::Head => ("", ""),
     };
     write!(out, "== {name}\n")?;

@@ -1,7 +1,7 @@
 //! Calls of the tool over files in memory.
 
 use crate::case::{Case, Shown};
-use crate::escape::{show_line, show_lines};
+use crate::escape::{lines_of, show_line, show_lines, texts_of};
 use og_base::{MemFile, MemSink, MemStore};
 use og_tool::{Status, run_tool};
 use std::alloc::{AllocError, Global};
@@ -14,7 +14,7 @@ pub fn show_command(alloc: Global, case: &mut Case, out: &mut String) -> Result<
     let status = called(alloc, &mut case.files, &case.words, reads, &mut sink);
     let code = status.code();
     write!(out, "{status:?} {code}\n")?;
-    show_output(case, sink.bytes.as_slice(), out)
+    show_output(alloc, case, sink.bytes.as_slice(), out)
 }
 
 /// What the tool writes that is called with these words over these files, where no call fails.
@@ -40,19 +40,30 @@ fn called(
 }
 
 /// Appends an output as the case wants it shown.
-fn show_output(case: &Case, bytes: &[u8], out: &mut String) -> Result<(), AllocError> {
+fn show_output(
+    alloc: Global,
+    case: &Case,
+    bytes: &[u8],
+    out: &mut String,
+) -> Result<(), AllocError> {
     match &case.shown {
-        Shown::Whole => show_lines(bytes, out),
-        Shown::Lines(numbers) => show_numbered(bytes, numbers, out),
-        Shown::Ends(count) => show_ends(bytes, *count, out),
+        Shown::Whole => show_lines(alloc, bytes, out),
+        Shown::Lines(numbers) => show_numbered(alloc, bytes, numbers, out),
+        Shown::Ends(count) => show_ends(alloc, bytes, *count, out),
         Shown::As(name) => show_same(bytes, case.file(name.as_str()), name.as_str(), out),
     }
 }
 
-fn show_numbered(bytes: &[u8], numbers: &[u64], out: &mut String) -> Result<(), AllocError> {
+fn show_numbered(
+    alloc: Global,
+    bytes: &[u8],
+    numbers: &[u64],
+    out: &mut String,
+) -> Result<(), AllocError> {
+    let lines = texts_of(alloc, bytes)?;
     for number in numbers {
-        let number = *number;
-        match line_of(bytes, number) {
+        let number = *number as usize;
+        match lines.get(number.wrapping_sub(1)) {
             None => write!(out, "{number} is not there\n")?,
             Some(line) => {
                 write!(out, "{number} ")?;
@@ -63,32 +74,20 @@ fn show_numbered(bytes: &[u8], numbers: &[u64], out: &mut String) -> Result<(), 
     Ok(())
 }
 
-/// The line of this number, counted from 1, without its end.
-fn line_of(bytes: &[u8], number: u64) -> Option<&[u8]> {
-    let mut left = number;
-    for line in bytes.split(|byte| *byte == b'\n') {
-        left = left.saturating_sub(1);
-        if left == 0 {
-            return Some(line);
-        }
-    }
-    None
-}
-
-fn show_ends(bytes: &[u8], count: u64, out: &mut String) -> Result<(), AllocError> {
+/// Appends how many bytes there are, and so many of the first and of the last lines.
+fn show_ends(alloc: Global, bytes: &[u8], count: u64, out: &mut String) -> Result<(), AllocError> {
     let size = bytes.len();
-    let lines = bytes.split_inclusive(|byte| *byte == b'\n').count() as u64;
     write!(out, "{size} bytes\n")?;
-    let last = lines.saturating_sub(count);
-    let mut number = 0u64;
-    for line in bytes.split_inclusive(|byte| *byte == b'\n') {
+    let count = count as usize;
+    let lines = lines_of(alloc, bytes)?;
+    let last = lines.len().saturating_sub(count);
+    for (number, line) in lines.iter().enumerate() {
         if number == count && number < last {
             out.push_str("..\n")?;
         }
         if number < count || number >= last {
-            show_lines(line, out)?;
+            show_lines(alloc, line, out)?;
         }
-        number = number.saturating_add(1);
     }
     Ok(())
 }

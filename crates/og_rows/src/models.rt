@@ -13,21 +13,16 @@ pub fn small_model(alloc: Global) -> Result<Model, NoMemory>
     ensures signals { IfOk result (λ model. length model.signals ≤ 200) }
     ensures timers { IfOk result (λ model. length model.timers ≤ 200) }
 {
-    let mut names = Names::new(alloc);
-    let process = names.add(b"p")?;
-    let idle = names.add(b"idle")?;
-    let go = names.add(b"go")?;
-    let done = names.add(b"done")?;
-    let truth = names.add(b"true")?;
-    let slow = names.add(b"slow")?;
+    let names = names_of(alloc, "p idle go done true slow")?;
     let mut signals = Items::new(alloc);
-    signals.push(signal(alloc, go, true))?;
-    signals.push(signal(alloc, done, false))?;
-    signals.push(signal(alloc, truth, true))?;
+    signals.push(signal(alloc, NameId(2), true))?;
+    signals.push(signal(alloc, NameId(3), false))?;
+    signals.push(signal(alloc, NameId(4), true))?;
     let mut timers = Items::new(alloc);
-    timers.push(slow)?;
+    timers.push(NameId(5))?;
+    let states = one_state(alloc, NameId(1))?;
     Ok(Model {
-        name: process,
+        name: NameId(0),
         names,
         types: TypeTable::new(alloc),
         signals,
@@ -35,11 +30,22 @@ pub fn small_model(alloc: Global) -> Result<Model, NoMemory>
         variables: Items::new(alloc),
         procs: Items::new(alloc),
         root: Scope {
-            states: one_state(alloc, idle)?,
+            states,
             starts: Items::new(alloc),
             bodies: Items::new(alloc),
         },
     })
+}
+
+/// A table of names. Those that are too long, or too many, are left out.
+fn names_of(alloc: Global, text: &str) -> Result<Names, NoMemory> {
+    let mut names = Names::new(alloc);
+    for word in text.split_whitespace() {
+        if word.len() <= 64 && names.len() < 1000 {
+            names.add(word.as_bytes())?;
+        }
+    }
+    Ok(names)
 }
 
 fn signal(alloc: Global, name: NameId, incoming: bool) -> Signal {

@@ -1,7 +1,7 @@
 //! Bytes as text: what the escapes of a case file stand for, and how bytes are shown.
 
 use crate::case::Wrong;
-use std::alloc::AllocError;
+use std::alloc::{AllocError, Global};
 
 /// Appends the bytes of a text with escapes. `\=` stands for `with`, and `\#` and `\+` for the count and the number behind it.
 pub fn put_bytes(text: &str, with: &[u8], count: u64, out: &mut Vec<u8>) -> Result<(), Wrong> {
@@ -68,21 +68,31 @@ fn digit_of(byte: u8) -> Result<u8, Wrong> {
     }
 }
 
+/// The lines of bytes, each with its end where it has one.
+pub fn lines_of(alloc: Global, bytes: &[u8]) -> Result<Vec<&[u8]>, AllocError> {
+    bytes.split_inclusive(|byte| *byte == b'\n').collect(alloc)
+}
+
+/// The texts of the lines of bytes. What is behind the last line end is a line too.
+pub fn texts_of(alloc: Global, bytes: &[u8]) -> Result<Vec<&[u8]>, AllocError> {
+    bytes.split(|byte| *byte == b'\n').collect(alloc)
+}
+
 /// Appends bytes in lines as a case file has them: `|` before a line, and `+` before what has no line end behind it.
-pub fn show_lines(bytes: &[u8], out: &mut String) -> Result<(), AllocError> {
-    for line in bytes.split_inclusive(|byte| *byte == b'\n') {
+pub fn show_lines(alloc: Global, bytes: &[u8], out: &mut String) -> Result<(), AllocError> {
+    for line in lines_of(alloc, bytes)? {
         match line {
-            [front @ .., b'\n'] => show_line("|", front, out)?,
+            [text @ .., b'\n'] => show_line("|", text, out)?,
             _ => show_line("+", line, out)?,
         }
     }
     Ok(())
 }
 
-/// Appends a line of bytes.
-pub fn show_line(mark: &str, bytes: &[u8], out: &mut String) -> Result<(), AllocError> {
+/// Appends the bytes of a line.
+pub fn show_line(mark: &str, text: &[u8], out: &mut String) -> Result<(), AllocError> {
     out.push_str(mark)?;
-    show_bytes(bytes, out)?;
+    show_bytes(text, out)?;
     out.push_str("\n")
 }
 

@@ -1,4 +1,6 @@
 //! Programs that are loaded, and their start.
+ghost use Rattle.std.specs.Prelude.{◌≡◌};
+ghost use Rattle.og_model.specs.Regions.{regions as regions_of};
 
 use crate::case::{Case, Wrong, number_of};
 use crate::models::small_model;
@@ -8,7 +10,8 @@ use og_base::Place;
 use og_cread::read_c;
 use og_cstep::{Advance, LoadError, Machine, StimId};
 use og_csubset::CProgram;
-use og_regions::number;
+use og_model::Model;
+use og_regions::{Regions, number};
 use std::alloc::{AllocError, Global};
 
 /// Appends the rule for which a program is not loaded, or what so many statements of its start show, and what its globals then say.
@@ -37,17 +40,28 @@ fn show_loaded(
     let Ok(regions) = number(alloc, &model) else {
         return out.push_str("no memory\n");
     };
-    match Machine::load(alloc, program, &model, &regions) {
+    match started(alloc, program, &model, &regions) {
         Ok(mut machine) => {
-            if machine.begin(StimId::Start).is_err() {
-                return out.push_str("no memory\n");
-            }
             show_run(&mut machine, count, out)?;
             show_read(&machine, out)
         }
         Err(LoadError::BadProgram(rule)) => write!(out, "bad {rule:?}\n"),
         Err(_) => out.push_str("no memory\n"),
     }
+}
+
+/// The machine of a program that is loaded and begins its start.
+fn started(
+    alloc: Global,
+    program: &CProgram,
+    model: &Model,
+    regions: &Regions,
+) -> Result<Machine, LoadError>
+    requires { regions.now.list ≡ regions_of model.now }
+{
+    let mut machine = Machine::load(alloc, program, model, regions)?;
+    machine.begin(StimId::Start)?;
+    Ok(machine)
 }
 
 /// Carries out so many statements, or those up to the end.

@@ -1,7 +1,7 @@
 //! Files that are read whole, and bytes that are written whole, over the stores and sinks in memory.
 
 use crate::case::{Case, Wrong, number_of};
-use crate::escape::show_lines;
+use crate::escape::{lines_of, show_lines};
 use og_base::{
     MemSink, MemStore, NeverFailSink, NeverFailStore, ReadError, Store, read_all, write_all,
 };
@@ -51,7 +51,7 @@ pub fn show_write(
     out: &mut String,
 ) -> Result<(), AllocError> {
     let mut sink = MemSink::new(alloc, case.writes.clone()?);
-    for line in bytes.split_inclusive(|byte| *byte == b'\n') {
+    for line in lines_of(alloc, bytes)? {
         let never = write_all(&mut NeverFailSink, line).is_ok();
         match write_all(&mut sink, line) {
             Ok(()) if never => out.push_str("written\n")?,
@@ -61,5 +61,5 @@ pub fn show_write(
     }
     let failures = sink.failures;
     write!(out, "{failures} failures\n")?;
-    show_lines(sink.bytes.as_slice(), out)
+    show_lines(alloc, sink.bytes.as_slice(), out)
 }

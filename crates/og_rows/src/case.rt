@@ -8,7 +8,7 @@ use std::alloc::{AllocError, AllocFailed, Global};
 use thiserror::Error;
 
 /// Why a case cannot be carried out.
-#[derive(Clone, Copy, Debug, PartialEq, Eq, Error)]
+#[derive(Debug, Drop, Error)]
 pub enum Wrong {
     #[error("no such line")]
     Line,
@@ -112,22 +112,14 @@ impl Case {
             return Ok(());
         }
         match word {
-            "file" => self.begin_file(alloc, rest),
-            "by" => self.add_output(alloc, rest),
-            "reads" => {
-                self.reads = numbers_of(alloc, rest)?;
-                Ok(())
-            }
-            "writes" => {
-                self.writes = numbers_of(alloc, rest)?;
-                Ok(())
-            }
-            "show" => {
-                self.shown = shown_of(alloc, rest)?;
-                Ok(())
-            }
-            _ => self.add_often(alloc, word, rest),
+            "file" => self.begin_file(alloc, rest)?,
+            "by" => self.add_output(alloc, rest)?,
+            "reads" => self.reads = numbers_of(alloc, rest)?,
+            "writes" => self.writes = numbers_of(alloc, rest)?,
+            "show" => self.shown = shown_of(alloc, rest)?,
+            _ => self.add_often(alloc, word, rest)?,
         }
+        Ok(())
     }
 
     /// `file NAME`: the lines behind it are those of this file.

@@ -16,6 +16,7 @@ mod stimuli;
 mod tokens;
 mod tree;
 
+use crate::section::{Opening, sections_of};
 use std::alloc::{AllocError, Global};
 use std::{fs, io};
 
@@ -32,13 +33,13 @@ fn main(rt: HostRuntime) -> io::Result<()> {
 /// What the cases of a file give, one behind the other.
 fn shown_cases(alloc: Global, text: &str) -> Result<String, AllocError> {
     let mut out = String::new(alloc);
-    let sections = section::sections_of(alloc, text)?;
+    let sections = sections_of(alloc, text)?;
     let mut head = 0;
     for (number, one) in sections.iter().enumerate() {
-        if one.is_head() {
-            head = number;
-        } else if let Some(shared) = sections.get(head) {
-            carry::show_case(alloc, shared, one, &mut out)?;
+        match (&one.opening, sections.get(head)) {
+            (Opening::Head, _) => head = number,
+            (_, Some(shared)) => carry::show_case(alloc, shared, one, &mut out)?,
+            _ => {}
         }
     }
     Ok(out)

@@ -3,14 +3,14 @@
 use std::alloc::{AllocError, Global};
 
 /// A line of a section, counted from 1 in its file.
-#[derive(Clone, Copy, Debug, Drop)]
+#[derive(Drop)]
 pub struct Line<'a> {
     pub number: usize,
     pub text: &'a str,
 }
 
 /// What a section is: the head of cases, a case with a name, or a case that is named by the text that `\=` stands for in it.
-#[derive(Clone, Copy, Debug, Drop)]
+#[derive(Drop)]
 pub enum Opening<'a> {
     Head,
     Case(&'a str),
@@ -21,12 +21,6 @@ pub enum Opening<'a> {
 pub struct Section<'a> {
     pub opening: Opening<'a>,
     pub lines: Vec<Line<'a>>,
-}
-
-impl Section<'_> {
-    pub fn is_head(&self) -> bool {
-        matches!(&self.opening, Opening::Head)
-    }
 }
 
 /// The sections of a file. What stands before the first opening line is a head.
