@@ -5,8 +5,10 @@
 pub enum Action {
     /// `words WORD ..`: the tool is called with these words.
     Words,
-    /// `tokens FILE`: the tokens of an SDL text.
+    /// `tokens FILE`: the tokens of a text of SDL/PR.
     Tokens,
+    /// `asn FILE`: the tokens of a text of ASN.1.
+    AsnTokens,
     /// `text FILE`: whether a text is one of the C subset.
     Text,
     /// `tree FILE`: the program that a text of the C subset spells.
@@ -30,6 +32,7 @@ pub fn action_of(word: &str) -> Option<Action> {
     match word {
         "words" => Some(Action::Words),
         "tokens" => Some(Action::Tokens),
+        "asn" => Some(Action::AsnTokens),
         "text" => Some(Action::Text),
         "tree" => Some(Action::Tree),
         "names" => Some(Action::Names),

@@ -12,6 +12,7 @@ use crate::steps::show_steps;
 use crate::stimuli::show_stimuli;
 use crate::tokens::show_tokens;
 use crate::tree::{show_place, show_tree};
+use og_lexer::Language;
 use std::alloc::{AllocError, Global};
 
 /// Appends the name of a case and what it gives, with a blank line behind it.
@@ -69,7 +70,8 @@ fn take_lines(alloc: Global, case: &mut Case, lines: &[Line<'_>]) -> Option<(usi
 fn show_action(alloc: Global, case: &mut Case, out: &mut String) -> Result<(), Wrong> {
     match case.action {
         Action::Words => show_command(alloc, case, out)?,
-        Action::Tokens => show_tokens(alloc, one_file(case)?, out)?,
+        Action::Tokens => show_tokens(alloc, Language::Sdl, one_file(case)?, out)?,
+        Action::AsnTokens => show_tokens(alloc, Language::Asn, one_file(case)?, out)?,
         Action::Text => show_place(alloc, one_file(case)?, out)?,
         Action::Tree => show_tree(alloc, one_file(case)?, out)?,
         Action::Names => show_names(alloc, one_file(case)?, out)?,

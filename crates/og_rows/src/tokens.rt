@@ -1,16 +1,25 @@
-//! The tokens of SDL texts.
+//! The tokens of texts of SDL/PR and of ASN.1.
 
 use crate::escape::show_bytes;
 use og_base::{ModelError, Violation};
-use og_lexer::{Comment, Lexed, Spanned, Token, lex_sdl};
+use og_lexer::{Comment, Language, Lexed, Spanned, Token, lex_asn, lex_sdl};
 use std::alloc::{AllocError, Global};
 
 /// Appends a line for each token and then for each comment, with its place and its bytes; or the rule that the text breaks.
-pub fn show_tokens(alloc: Global, text: &[u8], out: &mut String) -> Result<(), AllocError> {
+pub fn show_tokens(
+    alloc: Global,
+    language: Language,
+    text: &[u8],
+    out: &mut String,
+) -> Result<(), AllocError> {
     if text.len() > 1000000 {
         return out.push_str("too long\n");
     }
-    match lex_sdl(alloc, 0, text) {
+    let lexed = match language {
+        Language::Sdl => lex_sdl(alloc, 0, text),
+        Language::Asn => lex_asn(alloc, 0, text),
+    };
+    match lexed {
         Ok(lexed) => show_lexed(&lexed, out),
         Err(ModelError::Broken(Violation { rule, place })) => {
             let line = place.line;
@@ -51,6 +60,8 @@ fn show_token(token: &Token, out: &mut String) -> Result<(), AllocError> {
             show_bytes(word.bytes.as_slice(), out)
         }
         Token::Mark(mark) => write!(out, "{mark:?}"),
+        Token::AsnKeyword(keyword) => write!(out, "{keyword:?}"),
+        Token::AsnMark(mark) => write!(out, "{mark:?}"),
         Token::End => out.push_str("end"),
     }
 }
