@@ -12,7 +12,7 @@ ghost use Rattle.og_tool.specs.Answers.{IsOutputFor, IsReport, IsTooLargeFor};
 ghost use Rattle.og_trace.specs.Stims.{stims_of, given};
 ghost use Rattle.og_trace.specs.Traces.{run_outcome};
 ghost use Rattle.og_trace.specs.declared.Outcome.TheVariants as outcome;
-ghost use Rattle.og_tool.specs.Words.{Command, Compile, Run, Simulate, AsksFor};
+ghost use Rattle.og_tool.specs.Words.{Command, Check, Compile, Run, Simulate, AsksFor};
 
 use og_csubset::{
     agreeing_programs_show_the_same, more_statements_go_on, one_answer, one_deep_place,
@@ -21,16 +21,18 @@ use og_csubset::{
 use og_front::models_are_well_formed;
 use og_lexer::one_reading;
 
-/// Over a store that tells its files, a run calls for one text with one status, and the C of a model for one status; a simulation
-/// calls for the line of a violation where there is one. Nothing is called for where a file has too many bytes.
+/// Over a store that tells its files, a check and a run call for one text with one status, and the C of a model for one status; a
+/// simulation calls for the line of a violation where there is one. Nothing is called for where a file has too many bytes.
 pub fn one_output()
-    ensures run { (files : Files) (file program stimuli : List ℕ) (steps : ℕ) (status other : Status) (text more : List ℕ) →
-        IsOutputFor (Some files) (Run file program stimuli steps) status text → IsOutputFor (Some files) (Run file program stimuli steps) other more →
+    ensures run { (files : Files) (names : List (List ℕ)) (program stimuli : List ℕ) (steps : ℕ) (status other : Status) (text more : List ℕ) →
+        IsOutputFor (Some files) (Run names program stimuli steps) status text → IsOutputFor (Some files) (Run names program stimuli steps) other more →
         (status ≡ other) × (text ≡ more) }
-    ensures compile { (files : Files) (file : List ℕ) (status other : Status) (text more : List ℕ) →
-        IsOutputFor (Some files) (Compile file) status text → IsOutputFor (Some files) (Compile file) other more → status ≡ other }
-    ensures refusal { (files : Files) (file stimuli : List ℕ) (steps : ℕ) (status : Status) (text line : List ℕ) →
-        IsReport (Some files) file Status.Refused line → IsOutputFor (Some files) (Simulate file stimuli steps) status text →
+    ensures check { (files : Files) (names : List (List ℕ)) (status other : Status) (text more : List ℕ) →
+        IsOutputFor (Some files) (Check names) status text → IsOutputFor (Some files) (Check names) other more → (status ≡ other) × (text ≡ more) }
+    ensures compile { (files : Files) (names : List (List ℕ)) (status other : Status) (text more : List ℕ) →
+        IsOutputFor (Some files) (Compile names) status text → IsOutputFor (Some files) (Compile names) other more → status ≡ other }
+    ensures refusal { (files : Files) (names : List (List ℕ)) (stimuli : List ℕ) (steps : ℕ) (status : Status) (text line : List ℕ) →
+        IsReport (Some files) names Status.Refused line → IsOutputFor (Some files) (Simulate names stimuli steps) status text →
         (status ≡ Status.Refused) × (text ≡ line) }
     ensures too_large { (files : Files) (command : Command) (status : Status) (text : List ℕ) →
         IsOutputFor (Some files) command status text → IsTooLargeFor (Some files) command → ⊥ }
@@ -51,8 +53,8 @@ pub fn agreeing_is_never_stuck()
 /// Over a store that tells its files, two outputs of one simulation of which neither is cut short are one text with one
 /// status, whatever programs that agree with the model they come from.
 pub fn one_simulation()
-    ensures { (files : Files) (file stimuli : List ℕ) (steps : ℕ) (status other : Status) (text more : List ℕ) →
-        IsOutputFor (Some files) (Simulate file stimuli steps) status text → IsOutputFor (Some files) (Simulate file stimuli steps) other more →
+    ensures { (files : Files) (names : List (List ℕ)) (stimuli : List ℕ) (steps : ℕ) (status other : Status) (text more : List ℕ) →
+        IsOutputFor (Some files) (Simulate names stimuli steps) status text → IsOutputFor (Some files) (Simulate names stimuli steps) other more →
         status ≢ Status.Past → other ≢ Status.Past → (status ≡ other) × (text ≡ more) }
 {
     one_reading();
