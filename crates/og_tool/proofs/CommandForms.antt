@@ -50,7 +50,6 @@ same_read n m a b e p q = cc
 pub never_so : (test : Bool) (P : Type 0) → IsTrue test ↔ P → test ≡ false → P → ⊥
 never_so test P decides failed holds = let e : true ≡ false = sym (decides.1 holds) ∙ failed in cc
 
-
 -- ---- lists of words
 
 -- the texts of one more word

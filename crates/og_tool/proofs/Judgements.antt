@@ -5,7 +5,7 @@ use Rattle.og_base.specs.declared.Violation.{Violation}
 use Rattle.og_base.specs.Order.{first_of}
 use Rattle.og_lexer.specs.declared.Spanned.{Spanned}
 use Rattle.og_front.specs.declared.syntax.SystemText.{SystemText}
-use Rattle.og_front.specs.Files.{IsTextOf, FirstViolation}
+use Rattle.og_front.specs.Files.{IsTextOf, IsAccepted, IsRefused, FirstViolation}
 use Rattle.og_front.specs.Grammar.{Spells}
 use Rattle.og_front.specs.ModelOf.{model_of_tree}
 use Rattle.og_front.specs.Rules.{or_else, first_of_rules}
@@ -32,7 +32,7 @@ lexes_alone file system text = ((text.tokens, text.comments, text.lexes), tt)
 
 tree_first : (file : SourceFile) (v : Violation) (system : SystemText) → IsTextOf system file.bytes
     → (first_of (violations_in Names system) ≡ Some v)
-        ⊎ ((first_of (violations_in Names system) ≡ None) × ((first_of (violations_in States system) ≡ Some v) ⊎ ((first_of (violations_in States system) ≡ None) × (first_of (violations_in Limits system) ≡ Some v))))
+    ⊎ ((first_of (violations_in Names system) ≡ None) × ((first_of (violations_in States system) ≡ Some v) ⊎ ((first_of (violations_in States system) ≡ None) × (first_of (violations_in Limits system) ≡ Some v))))
     → IsFirstAmong (Names ∷ States ∷ Limits ∷ []) (file ∷ []) v
 tree_first file v system text (inl first) = inl (record { system = system; text = text; first = first })
 tree_first file v system text (inr (names, inl first)) = inr (record { system = system; text = text; none = names }, inl (record { system = system; text = text; first = first }))
@@ -144,3 +144,10 @@ one_violation laws files v w x y = one_among laws classes files v w x y
 
 pub one_model : TextLaws → (files : List SourceFile) (M N : Model) → HaveModel files M → HaveModel files N → M ≡ N
 one_model laws files M N x y = x.is ∙ ap model_of_tree (one_tree laws files x.system y.system x.text y.text) ∙ sym y.is
+
+pub each_alone : ((bytes : List ℕ) → IsAccepted bytes ⊎ IsRefused bytes) → (file : SourceFile) → AreAccepted (file ∷ []) ⊎ ((v : Violation) × IsFirstViolation (file ∷ []) v)
+each_alone each file = by (each file.bytes)
+  where
+    by : IsAccepted file.bytes ⊎ IsRefused file.bytes → AreAccepted (file ∷ []) ⊎ ((v : Violation) × IsFirstViolation (file ∷ []) v)
+    by (inl accepted) = inl (accepted_alone file accepted.system accepted.accepts.text accepted.accepts.keeps)
+    by (inr refused) = inr (refused.0, first_alone file refused.0 refused.1)

@@ -161,7 +161,6 @@ one_command words c d a b =
 
 -- ---- what stands behind
 
-
 pub no_run : (files behind : List (List ℕ)) → ((fs : List (List ℕ)) (p s : List ℕ) (n : ℕ) → StandsBehind behind (Run fs p s n) → ⊥) → FitsNone (codes "run") files behind
 no_run files behind none (Check fs) fits = let h : 117 ≡ 104 = ap letter fits.name_is in omega (arith, h)
 no_run files behind none (Compile fs) fits = let h : 117 ≡ 99 = ap letter fits.name_is in omega (arith, h)

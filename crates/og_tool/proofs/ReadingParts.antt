@@ -1,7 +1,6 @@
 -- What is read of the model files, file by file, and what the judgement of a single file says of the list of it.
 use Rattle.std.proofs.Common.{◌≡◌, ◌∙◌, ℕ, suc, true, ◌+◌, ◌<◌, ◌≤◌, List, [], ◌∷◌, ◌++◌, length, take, drop, get_or, Option, Global, sym, ap, subst, refl, inl, inr, arith, string_bytes}
 use Rattle.std.specs.Prelude.{unwrap_or}
-
 use Rattle.std.proofs.lemmas.List.{take-append-drop, map-append}
 use Rattle.std.proofs.Math.Seq.{drop-cons}
 use Rattle.std.specs.declared.string.String.{String}

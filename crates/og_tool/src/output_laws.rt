@@ -1,6 +1,7 @@
 //! Laws of what a command calls for, each as the contract of a function that does nothing.
-ghost use Rattle.std.specs.Prelude.{◌≡◌, ◌≢◌, ◌≤◌, ℕ, List, Some, false};
+ghost use Rattle.std.specs.Prelude.{◌≡◌, ◌≢◌, ◌⊎◌, ◌<◌, ◌≤◌, ℕ, List, [], ◌∷◌, length, Some, false};
 ghost use Rattle.og_base.specs.Store.{Files};
+ghost use Rattle.og_base.specs.declared.Violation.{Violation};
 ghost use Rattle.og_csubset.specs.Agreement.{SameBehaviour, enough};
 ghost use Rattle.og_csubset.specs.declared.CProgram.{CProgram};
 ghost use Rattle.og_model.specs.Forms.{UsesBasicStatesOnly};
@@ -8,6 +9,7 @@ ghost use Rattle.og_model.specs.declared.Model.{Model};
 ghost use Rattle.og_model.specs.Run.{sdl};
 ghost use Rattle.og_model.specs.Shown.{has_past};
 ghost use Rattle.og_tool.specs.declared.status.Status.{Status};
+ghost use Rattle.og_tool.specs.Judging.{SourceFile, AreAccepted, IsFirstViolation, HaveModel};
 ghost use Rattle.og_tool.specs.Answers.{IsOutputFor, IsReport, IsTooLargeFor};
 ghost use Rattle.og_trace.specs.Stims.{stims_of, given};
 ghost use Rattle.og_trace.specs.Traces.{run_outcome};
@@ -18,7 +20,7 @@ use og_csubset::{
     agreeing_programs_show_the_same, more_statements_go_on, one_answer, one_deep_place,
     one_program, one_wrong_place,
 };
-use og_front::models_are_well_formed;
+use og_front::{models_are_well_formed, one_answer as one_file_answer};
 use og_lexer::one_reading;
 
 /// Over a store that tells its files, a check and a run call for one text with one status, and the C of a model for one status; a
@@ -75,6 +77,19 @@ pub fn enough_is_enough()
         run_outcome model program text steps ≢ outcome.Past }
 {
     more_statements_go_on();
+}
+
+/// A single model file is accepted or has a first violation. Any model files have one first violation at most, and none where they
+/// are accepted; it stands in one of them. They have one model at most.
+pub fn one_judgement()
+    ensures each { (file : SourceFile) → AreAccepted (file ∷ []) ⊎ ((v : Violation) × IsFirstViolation (file ∷ []) v) }
+    ensures apart { (files : List SourceFile) (v : Violation) → AreAccepted files → IsFirstViolation files v → ⊥ }
+    ensures one { (files : List SourceFile) (v w : Violation) → IsFirstViolation files v → IsFirstViolation files w → v ≡ w }
+    ensures among { (files : List SourceFile) (v : Violation) → IsFirstViolation files v → v.place.file < length files }
+    ensures model { (files : List SourceFile) (model other : Model) → HaveModel files model → HaveModel files other → model ≡ other }
+{
+    one_reading();
+    one_file_answer();
 }
 
 /// Words ask for at most one command.

@@ -1,5 +1,5 @@
 //! The top call.
-ghost use Rattle.std.specs.Prelude.{◌≡◌, ◌≤◌, ◌↔◌, ℕ, List, IfOk, IsErrOf};
+ghost use Rattle.std.specs.Prelude.{◌≡◌, ◌≤◌, ◌↔◌, ℕ, List, map, string_bytes, IfOk, IsErrOf};
 ghost use Rattle.og_base.specs.Store.{Rose};
 ghost use Rattle.og_tool.specs.Answering.{CommandAnswer, unread_status};
 ghost use Rattle.og_tool.specs.Answers.{IsOutputFor, FailedFor, IsTooLargeFor, Wrote, WroteSome, FailedToRead, IsTooLarge};
@@ -26,30 +26,30 @@ pub fn run_tool<S: Store, K: Sink>(
     out: &mut K,
 ) -> Status
     // The words have no form of a command, and nothing is written.
-    ensures usage { (result ≡ Status.Usage) ↔ IsNoCommand (texts words.now.items) }
+    ensures usage { (result ≡ Status.Usage) ↔ IsNoCommand (map string_bytes words.now.items) }
     ensures usage_writes_nothing { result ≡ Status.Usage → K.written out.new ≡ K.written out.old }
 
     // What the command calls for is written whole, and has this status.
-    ensures done { result ≡ Status.Done → Wrote (texts words.now.items) (S.holds store.old) Status.Done (K.written out.old) (K.written out.new) }
-    ensures refused { result ≡ Status.Refused → Wrote (texts words.now.items) (S.holds store.old) Status.Refused (K.written out.old) (K.written out.new) }
-    ensures bad_file { result ≡ Status.BadFile → Wrote (texts words.now.items) (S.holds store.old) Status.BadFile (K.written out.old) (K.written out.new) }
-    ensures past { result ≡ Status.Past → Wrote (texts words.now.items) (S.holds store.old) Status.Past (K.written out.old) (K.written out.new) }
-    ensures faulted { result ≡ Status.Faulted → Wrote (texts words.now.items) (S.holds store.old) Status.Faulted (K.written out.old) (K.written out.new) }
-    ensures stuck { result ≡ Status.Stuck → Wrote (texts words.now.items) (S.holds store.old) Status.Stuck (K.written out.old) (K.written out.new) }
+    ensures done { result ≡ Status.Done → Wrote (map string_bytes words.now.items) (S.holds store.old) Status.Done (K.written out.old) (K.written out.new) }
+    ensures refused { result ≡ Status.Refused → Wrote (map string_bytes words.now.items) (S.holds store.old) Status.Refused (K.written out.old) (K.written out.new) }
+    ensures bad_file { result ≡ Status.BadFile → Wrote (map string_bytes words.now.items) (S.holds store.old) Status.BadFile (K.written out.old) (K.written out.new) }
+    ensures past { result ≡ Status.Past → Wrote (map string_bytes words.now.items) (S.holds store.old) Status.Past (K.written out.old) (K.written out.new) }
+    ensures faulted { result ≡ Status.Faulted → Wrote (map string_bytes words.now.items) (S.holds store.old) Status.Faulted (K.written out.old) (K.written out.new) }
+    ensures stuck { result ≡ Status.Stuck → Wrote (map string_bytes words.now.items) (S.holds store.old) Status.Stuck (K.written out.old) (K.written out.new) }
 
     // The C of a model is never stuck: only the words of `run` can give this status.
-    ensures never_stuck { result ≡ Status.Stuck → AskForRun (texts words.now.items) }
+    ensures never_stuck { result ≡ Status.Stuck → AskForRun (map string_bytes words.now.items) }
 
     // Reading a file of the words failed, or one has too many bytes, and nothing is written. The files before it were read, and
     // as far as the store tells what they hold, the model is accepted and the program can be run.
-    ensures read_fault { result ≡ Status.ReadFault → FailedToRead (texts words.now.items) (S.holds store.old) (S.faults store.old) (S.faults store.new) }
+    ensures read_fault { result ≡ Status.ReadFault → FailedToRead (map string_bytes words.now.items) (S.holds store.old) (S.faults store.old) (S.faults store.new) }
     ensures read_fault_writes_nothing { result ≡ Status.ReadFault → K.written out.new ≡ K.written out.old }
-    ensures too_large { result ≡ Status.TooLarge → IsTooLarge (texts words.now.items) (S.holds store.old) }
+    ensures too_large { result ≡ Status.TooLarge → IsTooLarge (map string_bytes words.now.items) (S.holds store.old) }
     ensures too_large_writes_nothing { result ≡ Status.TooLarge → K.written out.new ≡ K.written out.old }
 
     // Writing failed, and a front of what the command calls for is written.
     ensures write_fault { result ≡ Status.WriteFault → Rose (K.faults out.old) (K.faults out.new) }
-    ensures write_fault_writes_a_front { result ≡ Status.WriteFault → WroteSome (texts words.now.items) (S.holds store.old) (K.written out.old) (K.written out.new) }
+    ensures write_fault_writes_a_front { result ≡ Status.WriteFault → WroteSome (map string_bytes words.now.items) (S.holds store.old) (K.written out.old) (K.written out.new) }
 
     // Want of memory is free, and nothing is written.
     ensures no_memory { result ≡ Status.NoMemory → K.written out.new ≡ K.written out.old }
