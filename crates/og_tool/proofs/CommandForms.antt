@@ -1,13 +1,18 @@
 -- When a name ends so, and when words have the form of a command.
-use Rattle.std.proofs.Common.{◌≡◌, ℕ, ◌+◌, ◌-◌, ◌<◌, ◌≤◌, ◌↔◌, Bool, true, false, IsTrue, List, [], ◌∷◌, ◌++◌, length, take, drop, map, sym, ◌∙◌, ap, subst, refl, inl, inr, arith, string_bytes, get_or, length-append, Global, codes, decimal, Result, Ok}
+use Rattle.std.proofs.Common.{◌≡◌, ◌≢◌, ◌⊎◌, ℕ, zero, suc, ◌+◌, ◌-◌, ◌<◌, ◌≤◌, ◌↔◌, Bool, true, false, IsTrue, List, [], ◌∷◌, ◌++◌, length, take, drop, sym, ◌∙◌, ap, subst, refl, inl, inr, arith, string_bytes, get_or, length-append, Global, decimal, Result, Ok, Option, Some, None}
 use Rattle.std.proofs.lemmas.Fmt.{parse-decimal}
 use Rattle.std.specs.Str.Parse.{ParsesUnsigned}
 use Rattle.std.proofs.lemmas.List.{take-append-drop, drop_at, length-take-le}
+use Rattle.std.specs.Prelude.{IfNone}
 use lib.Pointwise.{pointwise}
 use lib.Dec.{eqb}
 use Rattle.std.specs.Cmp.Lexicographic.{same_text, other_text}
 use Rattle.std.specs.declared.string.String.{String}
-use Rattle.og_tool.specs.Words.{Compile, Run, Simulate, HasEnding, IsModelFile, IsProgramFile, IsStimuliFile, IsSteps, GivesSteps, IsNoCommand}
+use Rattle.std.specs.List.{AllByRecursion}
+use Rattle.std.proofs.lemmas.List.{take_more, map-append}
+use Rattle.og_front.proofs.Elements.{each_both}
+use Rattle.og_tool.specs.Asked.{texts}
+use Rattle.og_tool.specs.Words.{HasEnding, IsSdlFile, IsModelFile, HasSdlFile, IsSteps}
 
 -- ---- endings
 
@@ -34,68 +39,6 @@ pub is_text : (text wanted : List ℕ) (test : Bool) → test ≡ pointwise eqb 
 is_text text wanted true same = (λ _. same_text text wanted same, λ _. refl)
 is_text text wanted false same = (λ e. absurd (let h : false ≡ true = e in cc), λ w. absurd (other_text text wanted same w))
 
--- ---- lists of words
-
-pub four : (shown items : List (String Global)) (a b d e : String Global) (p q r s : List ℕ) → shown ≡ items → length shown ≤ 4 → 4 ≤ length shown
-    → a ≡ get_or shown 0 a → b ≡ get_or shown 1 b → d ≡ get_or shown 2 d → e ≡ get_or shown 3 e
-    → p ≡ string_bytes a → q ≡ string_bytes b → r ≡ string_bytes d → s ≡ string_bytes e
-    → p ∷ q ∷ r ∷ s ∷ [] ≡ map string_bytes items
-four [] items a b d e p q r s same most least a-at b-at d-at e-at p-is q-is r-is s-is = absurd (omega arith)
-four (k1 ∷ []) items a b d e p q r s same most least a-at b-at d-at e-at p-is q-is r-is s-is = absurd (omega arith)
-four (k1 ∷ k2 ∷ []) items a b d e p q r s same most least a-at b-at d-at e-at p-is q-is r-is s-is = absurd (omega arith)
-four (k1 ∷ k2 ∷ k3 ∷ []) items a b d e p q r s same most least a-at b-at d-at e-at p-is q-is r-is s-is = absurd (omega arith)
-four (k1 ∷ k2 ∷ k3 ∷ k4 ∷ []) items a b d e p q r s same most least a-at b-at d-at e-at p-is q-is r-is s-is = cc
-four (k1 ∷ k2 ∷ k3 ∷ k4 ∷ k5 ∷ more) items a b d e p q r s same most least a-at b-at d-at e-at p-is q-is r-is s-is = absurd (omega arith)
-
-pub five : (shown items : List (String Global)) (a b d e f : String Global) (p q r s t : List ℕ) → shown ≡ items → length shown ≤ 5 → 5 ≤ length shown
-    → a ≡ get_or shown 0 a → b ≡ get_or shown 1 b → d ≡ get_or shown 2 d → e ≡ get_or shown 3 e → f ≡ get_or shown 4 f
-    → p ≡ string_bytes a → q ≡ string_bytes b → r ≡ string_bytes d → s ≡ string_bytes e → t ≡ string_bytes f
-    → p ∷ q ∷ r ∷ s ∷ t ∷ [] ≡ map string_bytes items
-five [] items a b d e f p q r s t same most least a-at b-at d-at e-at f-at p-is q-is r-is s-is t-is = absurd (omega arith)
-five (k1 ∷ []) items a b d e f p q r s t same most least a-at b-at d-at e-at f-at p-is q-is r-is s-is t-is = absurd (omega arith)
-five (k1 ∷ k2 ∷ []) items a b d e f p q r s t same most least a-at b-at d-at e-at f-at p-is q-is r-is s-is t-is = absurd (omega arith)
-five (k1 ∷ k2 ∷ k3 ∷ []) items a b d e f p q r s t same most least a-at b-at d-at e-at f-at p-is q-is r-is s-is t-is = absurd (omega arith)
-five (k1 ∷ k2 ∷ k3 ∷ k4 ∷ []) items a b d e f p q r s t same most least a-at b-at d-at e-at f-at p-is q-is r-is s-is t-is = absurd (omega arith)
-five (k1 ∷ k2 ∷ k3 ∷ k4 ∷ k5 ∷ []) items a b d e f p q r s t same most least a-at b-at d-at e-at f-at p-is q-is r-is s-is t-is = cc
-five (k1 ∷ k2 ∷ k3 ∷ k4 ∷ k5 ∷ k6 ∷ more) items a b d e f p q r s t same most least a-at b-at d-at e-at f-at p-is q-is r-is s-is t-is = absurd (omega arith)
-
-pub six : (shown items : List (String Global)) (a b d e f g : String Global) (p q r s t u : List ℕ) → shown ≡ items → length shown ≤ 6 → 6 ≤ length shown
-    → a ≡ get_or shown 0 a → b ≡ get_or shown 1 b → d ≡ get_or shown 2 d → e ≡ get_or shown 3 e → f ≡ get_or shown 4 f → g ≡ get_or shown 5 g
-    → p ≡ string_bytes a → q ≡ string_bytes b → r ≡ string_bytes d → s ≡ string_bytes e → t ≡ string_bytes f → u ≡ string_bytes g
-    → p ∷ q ∷ r ∷ s ∷ t ∷ u ∷ [] ≡ map string_bytes items
-six [] items a b d e f g p q r s t u same most least a-at b-at d-at e-at f-at g-at p-is q-is r-is s-is t-is u-is = absurd (omega arith)
-six (k1 ∷ []) items a b d e f g p q r s t u same most least a-at b-at d-at e-at f-at g-at p-is q-is r-is s-is t-is u-is = absurd (omega arith)
-six (k1 ∷ k2 ∷ []) items a b d e f g p q r s t u same most least a-at b-at d-at e-at f-at g-at p-is q-is r-is s-is t-is u-is = absurd (omega arith)
-six (k1 ∷ k2 ∷ k3 ∷ []) items a b d e f g p q r s t u same most least a-at b-at d-at e-at f-at g-at p-is q-is r-is s-is t-is u-is = absurd (omega arith)
-six (k1 ∷ k2 ∷ k3 ∷ k4 ∷ []) items a b d e f g p q r s t u same most least a-at b-at d-at e-at f-at g-at p-is q-is r-is s-is t-is u-is = absurd (omega arith)
-six (k1 ∷ k2 ∷ k3 ∷ k4 ∷ k5 ∷ []) items a b d e f g p q r s t u same most least a-at b-at d-at e-at f-at g-at p-is q-is r-is s-is t-is u-is = absurd (omega arith)
-six (k1 ∷ k2 ∷ k3 ∷ k4 ∷ k5 ∷ k6 ∷ []) items a b d e f g p q r s t u same most least a-at b-at d-at e-at f-at g-at p-is q-is r-is s-is t-is u-is = cc
-six (k1 ∷ k2 ∷ k3 ∷ k4 ∷ k5 ∷ k6 ∷ k7 ∷ more) items a b d e f g p q r s t u same most least a-at b-at d-at e-at f-at g-at p-is q-is r-is s-is t-is u-is = absurd (omega arith)
-
--- ---- which words have no form
-
--- one word behind the files, or three, give no steps
-no_one_word : (n : ℕ) (word : List ℕ) → GivesSteps n (word ∷ []) → ⊥
-no_one_word n word (inl none) = let e : word ∷ [] ≡ [] = none.0 in cc
-no_one_word n word (inr given) = let e : word ∷ [] ≡ codes "--steps" ∷ decimal n ∷ [] = given.0 in cc
-
-no_three_words : (n : ℕ) (a b d : List ℕ) → GivesSteps n (a ∷ b ∷ d ∷ []) → ⊥
-no_three_words n a b d (inl none) = let e : a ∷ b ∷ d ∷ [] ≡ [] = none.0 in cc
-no_three_words n a b d (inr given) = let e : a ∷ b ∷ d ∷ [] ≡ codes "--steps" ∷ decimal n ∷ [] = given.0 in cc
-
-the_first : (a b d e : List ℕ) → a ∷ b ∷ [] ≡ d ∷ e ∷ [] → a ≡ d
-the_first a b d e same = cc
-
-the_second : (a b d e : List ℕ) → a ∷ b ∷ [] ≡ d ∷ e ∷ [] → b ≡ e
-the_second a b d e same = cc
-
--- where words stand behind the files, they give the steps
-two_given : (n : ℕ) (option number : List ℕ) → GivesSteps n (option ∷ number ∷ []) → (option ≡ codes "--steps") × (number ≡ decimal n) × IsSteps n
-two_given n option number (inl none) = absurd (let e : option ∷ number ∷ [] ≡ [] = none.0 in cc)
-two_given n option number (inr given) =
-    let e : option ∷ number ∷ [] ≡ codes "--steps" ∷ decimal n ∷ [] = given.0 in
-    (the_first option number (codes "--steps") (decimal n) e, the_second option number (codes "--steps") (decimal n) e, given.1)
-
 -- a number of steps is read from the word that it is printed as
 pub is_read : {E : Type 0} (n : ℕ) (number : List ℕ) (r : Result ℕ E) → number ≡ decimal n → IsSteps n → ParsesUnsigned 32 10 number r → r ≡ Ok n
 is_read n number r is steps parses = parse-decimal 32 n number r (omega (arith, steps.1)) (omega (arith, steps.1)) is parses
@@ -107,75 +50,58 @@ same_read n m a b e p q = cc
 pub never_so : (test : Bool) (P : Type 0) → IsTrue test ↔ P → test ≡ false → P → ⊥
 never_so test P decides failed holds = let e : true ≡ false = sym (decides.1 holds) ∙ failed in cc
 
-pub no_compile : (name file : List ℕ) → ((name ≡ codes "cc") → IsModelFile file → ⊥) → IsNoCommand (name ∷ file ∷ [])
-no_compile name file none (Compile f) asks =
-    let e : name ∷ file ∷ [] ≡ codes "cc" ∷ f ∷ [] = asks.0 in
-    none (the_first name file (codes "cc") f e) (subst IsModelFile (sym (the_second name file (codes "cc") f e)) asks.1)
-no_compile name file none (Run f p s n) asks = let e : name ∷ file ∷ [] ≡ codes "run" ∷ f ∷ p ∷ s ∷ asks.0 = asks.1 in cc
-no_compile name file none (Simulate f s n) asks = let e : name ∷ file ∷ [] ≡ codes "sim" ∷ f ∷ s ∷ asks.0 = asks.1 in cc
+-- ---- lists of words
 
--- the words of a list, and what stands behind them
-record Same3 (a b d x y z : List ℕ) (more last : List (List ℕ)) : Type 0 where
-  first : a ≡ x
-  second : y ≡ b
-  third : z ≡ d
-  behind : last ≡ more
+-- the texts of one more word
+pub texts_more : (names : List (String Global)) (i : ℕ) (d : String Global) → i < length names → texts (take (i + 1) names) ≡ texts (take i names) ++ string_bytes (get_or names i d) ∷ []
+texts_more names i d less = ap texts (take_more names i d less) ∙ map-append string_bytes (take i names) (get_or names i d ∷ [])
 
-same3 : (a b d x y z : List ℕ) (more last : List (List ℕ)) → a ∷ b ∷ d ∷ more ≡ x ∷ y ∷ z ∷ last → Same3 a b d x y z more last
-same3 a b d x y z more last e = record { first = cc; second = cc; third = cc; behind = cc }
+pub each_at : (P : List ℕ → Type 0) (words : List (String Global)) (i : ℕ) (d : String Global) → i < length words → AllByRecursion P (texts words) → P (string_bytes (get_or words i d))
+each_at P [] i d less all = absurd (omega arith)
+each_at P (w ∷ words) zero d less all = all.0
+each_at P (w ∷ words) (suc i) d less all = each_at P words i d (omega arith) all.1
 
-record Same4 (a b d e x y z w : List ℕ) (more last : List (List ℕ)) : Type 0 where
-  first : a ≡ x
-  second : y ≡ b
-  third : z ≡ d
-  fourth : w ≡ e
-  behind : last ≡ more
+-- a word that stands among others does not differ from them
+pub stands_at : (words : List (String Global)) (i : ℕ) (d : String Global) (text word : List ℕ) → i < length words → text ≡ string_bytes (get_or words i d) → text ≡ word → AllByRecursion (λ other. other ≢ word) (texts words) → ⊥
+stands_at words i d text word less is same all = each_at (λ other. other ≢ word) words i d less all (sym is ∙ same)
 
-same4 : (a b d e x y z w : List ℕ) (more last : List (List ℕ)) → a ∷ b ∷ d ∷ e ∷ more ≡ x ∷ y ∷ z ∷ w ∷ last → Same4 a b d e x y z w more last
-same4 a b d e x y z w more last h = record { first = cc; second = cc; third = cc; fourth = cc; behind = cc }
+sdl_at : (words : List (String Global)) (i : ℕ) (d : String Global) → i < length words → IsSdlFile (string_bytes (get_or words i d)) → HasSdlFile (texts words)
+sdl_at [] i d less is = absurd (omega arith)
+sdl_at (w ∷ words) zero d less is = inl is
+sdl_at (w ∷ words) (suc i) d less is = inr (sdl_at words i d (omega arith) is)
 
-gives : (n : ℕ) (last more : List (List ℕ)) → last ≡ more → GivesSteps n last → GivesSteps n more
-gives n last more same given = subst (GivesSteps n) same given
+pub has_sdl_at : (words : List (String Global)) (i : ℕ) (d : String Global) (text : List ℕ) → i < length words → text ≡ string_bytes (get_or words i d) → IsSdlFile text → HasSdlFile (texts words)
+has_sdl_at words i d text less is sdl = sdl_at words i d less (subst IsSdlFile is sdl)
 
-pub no_simulation : (name file stimuli : List ℕ) → ((name ≡ codes "sim") × IsModelFile file × IsStimuliFile stimuli → ⊥) → IsNoCommand (name ∷ file ∷ stimuli ∷ [])
-no_simulation name file stimuli none (Compile f) asks = let e : name ∷ file ∷ stimuli ∷ [] ≡ codes "cc" ∷ f ∷ [] = asks.0 in cc
-no_simulation name file stimuli none (Run f p s n) asks = let e : name ∷ file ∷ stimuli ∷ [] ≡ codes "run" ∷ f ∷ p ∷ s ∷ asks.0 = asks.1 in cc
-no_simulation name file stimuli none (Simulate f s n) asks =
-    let same = same3 name file stimuli (codes "sim") f s [] asks.0 asks.1 in
-    none (same.first, subst IsModelFile same.second asks.3, subst IsStimuliFile same.third asks.4)
+last_or_before : (names : List (List ℕ)) (name : List ℕ) → HasSdlFile (names ++ name ∷ []) → HasSdlFile names ⊎ IsSdlFile name
+last_or_before [] name (inl is) = inr is
+last_or_before [] name (inr more) = absurd more
+last_or_before (n ∷ names) name (inl is) = inl (inl is)
+last_or_before (n ∷ names) name (inr more) = elim (last_or_before names name more) [ inl before ↦ inl (inr before) | inr is ↦ inr is ]
 
-pub no_simulation_with_steps : (name file stimuli option number : List ℕ)
-    → ((name ≡ codes "sim") × IsModelFile file × IsStimuliFile stimuli → (n : ℕ) → option ≡ codes "--steps" → number ≡ decimal n → IsSteps n → ⊥)
-    → IsNoCommand (name ∷ file ∷ stimuli ∷ option ∷ number ∷ [])
-no_simulation_with_steps name file stimuli option number none (Compile f) asks =
-    let e : name ∷ file ∷ stimuli ∷ option ∷ number ∷ [] ≡ codes "cc" ∷ f ∷ [] = asks.0 in cc
-no_simulation_with_steps name file stimuli option number none (Run f p s n) asks =
-    let same = same4 name file stimuli option (codes "run") f p s (number ∷ []) asks.0 asks.1 in
-    no_one_word n number (gives n asks.0 (number ∷ []) same.behind asks.2)
-no_simulation_with_steps name file stimuli option number none (Simulate f s n) asks =
-    let same = same3 name file stimuli (codes "sim") f s (option ∷ number ∷ []) asks.0 asks.1 in
-    let given = two_given n option number (gives n asks.0 (option ∷ number ∷ []) same.behind asks.2) in
-    none (same.first, subst IsModelFile same.second asks.3, subst IsStimuliFile same.third asks.4) n given.0 given.1 given.2
+neither_is : (names : List (List ℕ)) (name : List ℕ) → (HasSdlFile names → ⊥) → (IsSdlFile name → ⊥) → HasSdlFile (names ++ name ∷ []) → ⊥
+neither_is names name none other has = elim (last_or_before names name has) [ inl before ↦ none before | inr is ↦ other is ]
 
-pub no_run : (name file program stimuli : List ℕ) → ((name ≡ codes "run") × IsModelFile file × IsProgramFile program × IsStimuliFile stimuli → ⊥)
-    → IsNoCommand (name ∷ file ∷ program ∷ stimuli ∷ [])
-no_run name file program stimuli none (Compile f) asks = let e : name ∷ file ∷ program ∷ stimuli ∷ [] ≡ codes "cc" ∷ f ∷ [] = asks.0 in cc
-no_run name file program stimuli none (Run f p s n) asks =
-    let same = same4 name file program stimuli (codes "run") f p s [] asks.0 asks.1 in
-    none (same.first, subst IsModelFile same.second asks.3, subst IsProgramFile same.third asks.4, subst IsStimuliFile same.fourth asks.5)
-no_run name file program stimuli none (Simulate f s n) asks =
-    let same = same3 name file program (codes "sim") f s (stimuli ∷ []) asks.0 asks.1 in
-    no_one_word n stimuli (gives n asks.0 (stimuli ∷ []) same.behind asks.2)
+pub no_sdl_more : (words : List (String Global)) (i : ℕ) (d : String Global) (text : List ℕ) → i < length words → text ≡ string_bytes (get_or words i d) → (HasSdlFile (texts (take i words)) → ⊥) → (IsSdlFile text → ⊥)
+    → HasSdlFile (texts (take (i + 1) words)) → ⊥
+no_sdl_more words i d text less is none other has =
+    neither_is (texts (take i words)) (string_bytes (get_or words i d)) none (λ sdl. other (subst IsSdlFile (sym is) sdl)) (subst HasSdlFile (texts_more words i d less) has)
 
-pub no_run_with_steps : (name file program stimuli option number : List ℕ)
-    → ((name ≡ codes "run") × IsModelFile file × IsProgramFile program × IsStimuliFile stimuli → (n : ℕ) → option ≡ codes "--steps" → number ≡ decimal n → IsSteps n → ⊥)
-    → IsNoCommand (name ∷ file ∷ program ∷ stimuli ∷ option ∷ number ∷ [])
-no_run_with_steps name file program stimuli option number none (Compile f) asks =
-    let e : name ∷ file ∷ program ∷ stimuli ∷ option ∷ number ∷ [] ≡ codes "cc" ∷ f ∷ [] = asks.0 in cc
-no_run_with_steps name file program stimuli option number none (Run f p s n) asks =
-    let same = same4 name file program stimuli (codes "run") f p s (option ∷ number ∷ []) asks.0 asks.1 in
-    let given = two_given n option number (gives n asks.0 (option ∷ number ∷ []) same.behind asks.2) in
-    none (same.first, subst IsModelFile same.second asks.3, subst IsProgramFile same.third asks.4, subst IsStimuliFile same.fourth asks.5) n given.0 given.1 given.2
-no_run_with_steps name file program stimuli option number none (Simulate f s n) asks =
-    let same = same3 name file program (codes "sim") f s (stimuli ∷ option ∷ number ∷ []) asks.0 asks.1 in
-    no_three_words n stimuli option number (gives n asks.0 (stimuli ∷ option ∷ number ∷ []) same.behind asks.2)
+pub each_model_more : (words : List (String Global)) (i : ℕ) (d : String Global) (text : List ℕ) → i < length words → text ≡ string_bytes (get_or words i d) → AllByRecursion IsModelFile (texts (take i words)) → IsModelFile text
+    → AllByRecursion IsModelFile (texts (take (i + 1) words))
+each_model_more words i d text less is all model =
+    subst (AllByRecursion IsModelFile) (sym (texts_more words i d less))
+    (each_both IsModelFile (texts (take i words)) (string_bytes (get_or words i d) ∷ []) all (subst IsModelFile is model, tt))
+
+-- the words in front and those behind, in texts
+pub texts_joined : (words front back : List (String Global)) → words ≡ front ++ back → texts words ≡ texts front ++ texts back
+texts_joined words front back e = ap texts e ∙ map-append string_bytes front back
+
+-- ---- answers
+
+pub none_if : {A : Type 0} (r : Option A) (P : Type 0) → r ≡ None → P → IfNone r P
+none_if r P none fact = subst (λ o. IfNone o P) (sym none) fact
+
+pub none_then : {A : Type 0} (r : Option A) (P Q : Type 0) → (P → Q) → IfNone r P → IfNone r Q
+none_then None P Q step fact = step fact
+none_then (Some x) P Q step fact = _

@@ -1,5 +1,5 @@
 -- The stimuli of a file are such as the model takes, so that a program that agrees with the model is never stuck over them.
-use Rattle.std.proofs.Common.{◌≡◌, ℕ, suc, ◌+◌, Bool, true, false, ◌&&◌, ◌||◌, ◌==◌, if◌then◌else◌, List, [], ◌∷◌, Some, None, Option, Result, Ok, Err, slice_get, sym, ◌∙◌, ap, subst, refl, arith}
+use Rattle.std.proofs.Common.{◌≡◌, ℕ, suc, ◌+◌, Bool, true, false, ◌&&◌, ◌==◌, if◌then◌else◌, List, [], ◌∷◌, Some, None, Option, Result, Ok, Err, slice_get, sym, ◌∙◌, ap, subst, refl, arith}
 use Rattle.std.specs.List.{list_all}
 use Rattle.og_names.specs.declared.NameId.{NameId}
 use Rattle.og_names.specs.Folding.{folded, place_of}

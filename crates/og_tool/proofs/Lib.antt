@@ -5,5 +5,8 @@ pub mod OneCommand
 pub mod GivenStimuli
 pub mod ProgramParts
 pub mod RunningParts
+pub mod Judgements
+pub mod InFiles
+pub mod ReadingParts
 pub mod OneOutput
 pub mod OneSimulation

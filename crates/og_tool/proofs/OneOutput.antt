@@ -1,6 +1,6 @@
 -- Over a store that tells its files a command calls for one thing: what a run writes and its status are one, and there is neither
 -- where a file has too many bytes.
-use Rattle.std.proofs.Common.{◌≡◌, ◌∙◌, ℕ, List, length, Some, None, sym, ap, subst, inl, inr, arith}
+use Rattle.std.proofs.Common.{◌≡◌, ◌∙◌, ℕ, List, [], ◌∷◌, length, map, slice_get, Some, None, sym, ap, subst, refl, inl, inr, arith}
 use Rattle.og_base.specs.Store.{Files, HoldsMore}
 use Rattle.og_model.specs.declared.Model.{Model}
 use Rattle.og_csubset.specs.declared.CProgram.{CProgram}
@@ -14,12 +14,16 @@ use Rattle.og_tool.specs.declared.program.BadProgram.{BadProgram}
 use Rattle.og_tool.specs.declared.program.BadProgram.TheVariants.{NoForm, TooDeep, Breaks}
 use Rattle.og_tool.specs.declared.status.Status.{Status}
 use Rattle.og_tool.specs.declared.status.Status.TheVariants.{Refused}
-use Rattle.og_tool.specs.Answers.{limit, HasRead, HasModel, HasProgram, IsReport, IsBadLine, IsTrace, IsOutputFor, IsTooLargeFor, status_of}
-use Rattle.og_front.specs.Files.{IsTextOf, FirstViolation, report_line}
-use Rattle.og_front.specs.ModelOf.{model_of_tree}
+use Rattle.og_tool.specs.Answers.{limit, HasRead, AreRead, HasModel, HasProgram, IsReport, accepted_line, IsAcceptance, IsBadLine, as_word, IsTrace, IsOutputFor, IsLargeAmong, IsTooLargeFor, status_of}
+use Rattle.og_tool.specs.Judging.{SourceFile, AreTextOf, IsFirstViolation, HaveModel}
+use Rattle.og_front.specs.declared.syntax.SystemText.{SystemText}
+use Rattle.og_front.specs.Files.{report_line}
+use Rattle.og_names.specs.Folding.{folded}
+use Rattle.og_base.specs.declared.Violation.{Violation}
 use Rattle.og_tool.specs.Programs.{IsTextOfProgram, IsBadFor, bad_program_line}
-use Rattle.og_tool.specs.Words.{Command, Compile, Run, Simulate}
-use Rattle.og_front.proofs.OneAnswer.{OneText, OneLexical, Apart, same_system, never_both, one_first}
+use Rattle.og_tool.specs.Words.{Command, Check, Compile, Run, Simulate}
+use Rattle.og_front.proofs.OneAnswer.{OneText, OneLexical, Apart}
+use Rattle.og_tool.proofs.Judgements.{TextLaws, one_tree, never_both, one_violation, one_model}
 use Rattle.og_tool.proofs.ProgramParts.{OneProgram, NotDeep, NotBad}
 use Rattle.og_names.proofs.Truths.{same_value as same_some}
 
@@ -45,24 +49,58 @@ never_large files name a x more =
     let long : length a ≡ length more.0 = ap length (same_some a more.0 (sym x.holds ∙ more.1)) in
     omega (arith, x.small, more.2, long)
 
-pub same_model : Laws → (files : Files) (file : List ℕ) (M N : Model) → HasModel (Some files) file M → HasModel (Some files) file N → M ≡ N
-same_model laws files file M N x y =
-    let P : List ℕ → Type 0 = λ bytes. IsTextOf y.system bytes in
-    let text : IsTextOf y.system x.bytes = subst P (same_bytes files file y.bytes x.bytes y.read x.read) y.accepts.text in
-    let same : x.system ≡ y.system = same_system laws.texts x.bytes x.system y.system x.accepts.text text in
-    x.is ∙ ap model_of_tree same ∙ sym y.is
+-- ---- the model files
 
-pub never_reported : Laws → (files : Files) (file line : List ℕ) (M : Model) (status : Status) → HasModel (Some files) file M → IsReport (Some files) file status line → ⊥
-never_reported laws files file line M status x report =
-    let P : List ℕ → Type 0 = λ bytes. FirstViolation bytes report.violation in
-    never_both laws.texts laws.apart x.bytes report.violation (record { system = x.system; accepts = x.accepts })
-    (subst P (same_bytes files file report.bytes x.bytes report.read x.read) report.first)
+text_laws : Laws → TextLaws
+text_laws laws = record { texts = laws.texts; lexicals = laws.lexicals; apart = laws.apart }
 
-pub same_report : Laws → (files : Files) (file line more : List ℕ) (status other : Status) → IsReport (Some files) file status line → IsReport (Some files) file other more → (status ≡ other) × (line ≡ more)
-same_report laws files file line more status other x y =
-    let P : List ℕ → Type 0 = λ bytes. FirstViolation bytes y.violation in
-    let same : x.violation ≡ y.violation = one_first laws.texts laws.lexicals laws.apart x.bytes x.violation y.violation x.first (subst P (same_bytes files file y.bytes x.bytes y.read x.read) y.first) in
-    (x.refused ∙ sym y.refused, x.is ∙ ap (report_line file) same ∙ sym y.is)
+same_source : (a b : SourceFile) → a.name ≡ b.name → a.bytes ≡ b.bytes → a ≡ b
+same_source a b names bytes =
+    let by_name : List ℕ → SourceFile = λ name. record { name = name; bytes = a.bytes } in
+    let by_bytes : List ℕ → SourceFile = λ bs. record { name = b.name; bytes = bs } in
+    ap by_name names ∙ ap by_bytes bytes
+
+both_same : (a b : SourceFile) (as' bs : List SourceFile) → a ≡ b → as' ≡ bs → a ∷ as' ≡ b ∷ bs
+both_same a b as' bs d e = cc
+
+same_files : (files : Files) (names : List (List ℕ)) (xs ys : List SourceFile) → AreRead (Some files) names xs → AreRead (Some files) names ys → xs ≡ ys
+same_files files [] [] [] x y = refl
+same_files files [] [] (b ∷ ys) x y = absurd y
+same_files files [] (a ∷ xs) ys x y = absurd x
+same_files files (name ∷ names) [] ys x y = absurd x
+same_files files (name ∷ names) (a ∷ xs) [] x y = absurd y
+same_files files (name ∷ names) (a ∷ xs) (b ∷ ys) x y =
+    both_same a b xs ys (same_source a b (x.0 ∙ sym y.0) (same_bytes files name a.bytes b.bytes x.1 y.1)) (same_files files names xs ys x.2 y.2)
+
+read_not_large : (files : Files) (names : List (List ℕ)) (xs : List SourceFile) → AreRead (Some files) names xs → IsLargeAmong (Some files) names → ⊥
+read_not_large files [] xs read large = large
+read_not_large files (name ∷ names) [] read large = read
+read_not_large files (name ∷ names) (a ∷ xs) read (inl more) = never_large files name a.bytes read.1 more
+read_not_large files (name ∷ names) (a ∷ xs) read (inr later) = read_not_large files names xs read.2 later.1
+
+pub same_model : Laws → (files : Files) (names : List (List ℕ)) (M N : Model) → HasModel (Some files) names M → HasModel (Some files) names N → M ≡ N
+same_model laws files names M N x y =
+    let P : List SourceFile → Type 0 = λ fs. HaveModel fs N in
+    one_model (text_laws laws) x.files M N x.have (subst P (same_files files names y.files x.files y.read x.read) y.have)
+
+pub never_reported : Laws → (files : Files) (names : List (List ℕ)) (line : List ℕ) (M : Model) (status : Status) → HasModel (Some files) names M → IsReport (Some files) names status line → ⊥
+never_reported laws files names line M status x report =
+    let P : List SourceFile → Type 0 = λ fs. IsFirstViolation fs report.violation in
+    never_both (text_laws laws) x.files report.violation x.have.accepted (subst P (same_files files names report.files x.files report.read x.read) report.first)
+
+pub same_report : Laws → (files : Files) (names : List (List ℕ)) (line more : List ℕ) (status other : Status) → IsReport (Some files) names status line → IsReport (Some files) names other more → (status ≡ other) × (line ≡ more)
+same_report laws files names line more status other x y =
+    let P : List SourceFile → Type 0 = λ fs. IsFirstViolation fs y.violation in
+    let same : x.violation ≡ y.violation = one_violation (text_laws laws) x.files x.violation y.violation x.first (subst P (same_files files names y.files x.files y.read x.read) y.first) in
+    let word : Some x.name ≡ Some y.name = sym x.named ∙ ap (λ (v : Violation). slice_get names v.place.file) same ∙ y.named in
+    (x.refused ∙ sym y.refused, x.is ∙ ap (λ name. report_line name x.violation) (same_some x.name y.name word) ∙ ap (report_line y.name) same ∙ sym y.is)
+
+same_acceptance : Laws → (files : Files) (names : List (List ℕ)) (line more : List ℕ) (status other : Status) → IsAcceptance (Some files) names status line → IsAcceptance (Some files) names other more → (status ≡ other) × (line ≡ more)
+same_acceptance laws files names line more status other x y =
+    let P : List SourceFile → Type 0 = λ fs. AreTextOf y.has_model.have.system fs in
+    let text = subst P (same_files files names y.has_model.files x.has_model.files y.has_model.read x.has_model.read) y.has_model.have.text in
+    let same = one_tree (text_laws laws) x.has_model.files x.has_model.have.system y.has_model.have.system x.has_model.have.text text in
+    (x.done ∙ sym y.done, x.is ∙ ap (λ (system : SystemText). accepted_line (folded system.process.word.bytes)) same ∙ sym y.is)
 
 -- ---- the file of a program
 
@@ -90,10 +128,10 @@ same_wrong laws M bytes (Breaks rule) (TooDeep q) a b = absurd (laws.not_deep 25
 same_wrong laws M bytes (Breaks rule) (Breaks other) a b =
     ap Breaks (same_some rule other (sym a.2 ∙ ap (λ (Q : CProgram). first_load_rule Q M) (laws.programs a.0 b.0 bytes a.1.spelt b.1.spelt) ∙ b.2))
 
-same_bad_line : Laws → (files : Files) (file code line more : List ℕ) (status other : Status)
-    → IsBadLine (Some files) file code status line → IsBadLine (Some files) file code other more → (status ≡ other) × (line ≡ more)
-same_bad_line laws files file code line more status other x y =
-    let M : x.model ≡ y.model = same_model laws files file x.model y.model x.has_model y.has_model in
+same_bad_line : Laws → (files : Files) (names : List (List ℕ)) (code line more : List ℕ) (status other : Status)
+    → IsBadLine (Some files) names code status line → IsBadLine (Some files) names code other more → (status ≡ other) × (line ≡ more)
+same_bad_line laws files names code line more status other x y =
+    let M : x.model ≡ y.model = same_model laws files names x.model y.model x.has_model y.has_model in
     let P : Model → Type 0 = λ model. IsBadFor model y.bytes y.wrong in
     let Q : List ℕ → Type 0 = λ bytes. IsBadFor x.model bytes y.wrong in
     let bad : IsBadFor x.model x.bytes y.wrong = subst Q (same_bytes files code y.bytes x.bytes y.read x.read) (subst P (sym M) y.bad) in
@@ -101,10 +139,10 @@ same_bad_line laws files file code line more status other x y =
     (x.bad_file ∙ sym y.bad_file, x.is ∙ ap (bad_program_line code) same ∙ sym y.is)
 
 -- a program that can be run, and a line that says what is wrong with its file
-never_bad_line : Laws → (files : Files) (file code line : List ℕ) (status : Status) (M : Model) (P : CProgram)
-    → IsBadLine (Some files) file code status line → HasModel (Some files) file M → HasProgram (Some files) code M P → ⊥
-never_bad_line laws files file code line status M P x has program =
-    let same : x.model ≡ M = same_model laws files file x.model M x.has_model has in
+never_bad_line : Laws → (files : Files) (names : List (List ℕ)) (code line : List ℕ) (status : Status) (M : Model) (P : CProgram)
+    → IsBadLine (Some files) names code status line → HasModel (Some files) names M → HasProgram (Some files) code M P → ⊥
+never_bad_line laws files names code line status M P x has program =
+    let same : x.model ≡ M = same_model laws files names x.model M x.has_model has in
     let R : Model → Type 0 = λ model. IsBadFor model x.bytes x.wrong in
     let Q : List ℕ → Type 0 = λ bytes. IsBadFor M bytes x.wrong in
     never_wrong laws M program.bytes P program.text program.loads x.wrong
@@ -112,61 +150,70 @@ never_bad_line laws files file code line status M P x has program =
 
 -- ---- runs
 
-same_trace : (files : Files) (M : Model) (P : CProgram) (file stimuli text more : List ℕ) (steps : ℕ) (status other : Status)
-    → IsTrace (Some files) M P file stimuli steps status text → IsTrace (Some files) M P file stimuli steps other more → (status ≡ other) × (text ≡ more)
-same_trace files M P file stimuli text more steps status other x y =
+same_trace : (files : Files) (M : Model) (P : CProgram) (names : List (List ℕ)) (stimuli text more : List ℕ) (steps : ℕ) (status other : Status)
+    → IsTrace (Some files) M P names stimuli steps status text → IsTrace (Some files) M P names stimuli steps other more → (status ≡ other) × (text ≡ more)
+same_trace files M P names stimuli text more steps status other x y =
     let same : x.bytes ≡ y.bytes = same_bytes files stimuli x.bytes y.bytes x.read y.read in (
       x.ends ∙ ap (λ (bytes : List ℕ). status_of (run_outcome M P bytes steps)) same ∙ sym y.ends,
-      x.is ∙ ap (λ (bytes : List ℕ). run_text M P file stimuli bytes steps) same ∙ sym y.is,
+      x.is ∙ ap (λ (bytes : List ℕ). run_text M P (map as_word names) stimuli bytes steps) same ∙ sym y.is,
     )
 
-pub one_run : Laws → (files : Files) (file code stimuli : List ℕ) (steps : ℕ) (status other : Status) (text more : List ℕ)
-    → IsOutputFor (Some files) (Run file code stimuli steps) status text → IsOutputFor (Some files) (Run file code stimuli steps) other more
+pub one_run : Laws → (files : Files) (names : List (List ℕ)) (code stimuli : List ℕ) (steps : ℕ) (status other : Status) (text more : List ℕ)
+    → IsOutputFor (Some files) (Run names code stimuli steps) status text → IsOutputFor (Some files) (Run names code stimuli steps) other more
     → (status ≡ other) × (text ≡ more)
-one_run laws files file code stimuli steps status other text more (inl x) (inl y) = same_report laws files file text more status other x y
-one_run laws files file code stimuli steps status other text more (inl x) (inr (inl y)) = absurd (never_reported laws files file text y.model status y.has_model x)
-one_run laws files file code stimuli steps status other text more (inl x) (inr (inr y)) = absurd (never_reported laws files file text y.model status y.has_model x)
-one_run laws files file code stimuli steps status other text more (inr (inl x)) (inl y) = absurd (never_reported laws files file more x.model other x.has_model y)
-one_run laws files file code stimuli steps status other text more (inr (inl x)) (inr (inl y)) = same_bad_line laws files file code text more status other x y
-one_run laws files file code stimuli steps status other text more (inr (inl x)) (inr (inr y)) = absurd (never_bad_line laws files file code text status y.model y.program x y.has_model y.has_program)
-one_run laws files file code stimuli steps status other text more (inr (inr x)) (inl y) = absurd (never_reported laws files file more x.model other x.has_model y)
-one_run laws files file code stimuli steps status other text more (inr (inr x)) (inr (inl y)) = absurd (never_bad_line laws files file code more other x.model x.program y x.has_model x.has_program)
-one_run laws files file code stimuli steps status other text more (inr (inr x)) (inr (inr y)) =
-    let models : y.model ≡ x.model = same_model laws files file y.model x.model y.has_model x.has_model in
+one_run laws files names code stimuli steps status other text more (inl x) (inl y) = same_report laws files names text more status other x y
+one_run laws files names code stimuli steps status other text more (inl x) (inr (inl y)) = absurd (never_reported laws files names text y.model status y.has_model x)
+one_run laws files names code stimuli steps status other text more (inl x) (inr (inr y)) = absurd (never_reported laws files names text y.model status y.has_model x)
+one_run laws files names code stimuli steps status other text more (inr (inl x)) (inl y) = absurd (never_reported laws files names more x.model other x.has_model y)
+one_run laws files names code stimuli steps status other text more (inr (inl x)) (inr (inl y)) = same_bad_line laws files names code text more status other x y
+one_run laws files names code stimuli steps status other text more (inr (inl x)) (inr (inr y)) = absurd (never_bad_line laws files names code text status y.model y.program x y.has_model y.has_program)
+one_run laws files names code stimuli steps status other text more (inr (inr x)) (inl y) = absurd (never_reported laws files names more x.model other x.has_model y)
+one_run laws files names code stimuli steps status other text more (inr (inr x)) (inr (inl y)) = absurd (never_bad_line laws files names code more other x.model x.program y x.has_model x.has_program)
+one_run laws files names code stimuli steps status other text more (inr (inr x)) (inr (inr y)) =
+    let models : y.model ≡ x.model = same_model laws files names y.model x.model y.has_model x.has_model in
     let H : Model → Type 0 = λ model. HasProgram (Some files) code model y.program in
-    let T : Model → Type 0 = λ model. IsTrace (Some files) model y.program file stimuli steps other more in
+    let T : Model → Type 0 = λ model. IsTrace (Some files) model y.program names stimuli steps other more in
     let programs : y.program ≡ x.program = same_program laws files code x.model y.program x.program (subst H models y.has_program) x.has_program in
-    let U : CProgram → Type 0 = λ program. IsTrace (Some files) x.model program file stimuli steps other more in
-    same_trace files x.model x.program file stimuli text more steps status other x.traces (subst U programs (subst T models y.traces))
+    let U : CProgram → Type 0 = λ program. IsTrace (Some files) x.model program names stimuli steps other more in
+    same_trace files x.model x.program names stimuli text more steps status other x.traces (subst U programs (subst T models y.traces))
 
-pub one_compilation : Laws → (files : Files) (file : List ℕ) (status other : Status) (text more : List ℕ)
-    → IsOutputFor (Some files) (Compile file) status text → IsOutputFor (Some files) (Compile file) other more → status ≡ other
-one_compilation laws files file status other text more (inl x) (inl y) = x.refused ∙ sym y.refused
-one_compilation laws files file status other text more (inl x) (inr y) = absurd (never_reported laws files file text y.model status y.has_model x)
-one_compilation laws files file status other text more (inr x) (inl y) = absurd (never_reported laws files file more x.model other x.has_model y)
-one_compilation laws files file status other text more (inr x) (inr y) = x.done ∙ sym y.done
+pub one_check : Laws → (files : Files) (names : List (List ℕ)) (status other : Status) (text more : List ℕ)
+    → IsOutputFor (Some files) (Check names) status text → IsOutputFor (Some files) (Check names) other more → (status ≡ other) × (text ≡ more)
+one_check laws files names status other text more (inl x) (inl y) = same_report laws files names text more status other x y
+one_check laws files names status other text more (inl x) (inr y) = absurd (never_reported laws files names text y.model status y.has_model x)
+one_check laws files names status other text more (inr x) (inl y) = absurd (never_reported laws files names more x.model other x.has_model y)
+one_check laws files names status other text more (inr x) (inr y) = same_acceptance laws files names text more status other x y
 
-pub one_refusal : Laws → (files : Files) (file stimuli : List ℕ) (steps : ℕ) (status : Status) (text line : List ℕ)
-    → IsReport (Some files) file Refused line → IsOutputFor (Some files) (Simulate file stimuli steps) status text → (status ≡ Refused) × (text ≡ line)
-one_refusal laws files file stimuli steps status text line report (inl x) = same_report laws files file text line status Refused x report
-one_refusal laws files file stimuli steps status text line report (inr x) = absurd (never_reported laws files file line x.model Refused x.has_model report)
+pub one_compilation : Laws → (files : Files) (names : List (List ℕ)) (status other : Status) (text more : List ℕ)
+    → IsOutputFor (Some files) (Compile names) status text → IsOutputFor (Some files) (Compile names) other more → status ≡ other
+one_compilation laws files names status other text more (inl x) (inl y) = x.refused ∙ sym y.refused
+one_compilation laws files names status other text more (inl x) (inr y) = absurd (never_reported laws files names text y.model status y.has_model x)
+one_compilation laws files names status other text more (inr x) (inl y) = absurd (never_reported laws files names more x.model other x.has_model y)
+one_compilation laws files names status other text more (inr x) (inr y) = x.done ∙ sym y.done
+
+pub one_refusal : Laws → (files : Files) (names : List (List ℕ)) (stimuli : List ℕ) (steps : ℕ) (status : Status) (text line : List ℕ)
+    → IsReport (Some files) names Refused line → IsOutputFor (Some files) (Simulate names stimuli steps) status text → (status ≡ Refused) × (text ≡ line)
+one_refusal laws files names stimuli steps status text line report (inl x) = same_report laws files names text line status Refused x report
+one_refusal laws files names stimuli steps status text line report (inr x) = absurd (never_reported laws files names line x.model Refused x.has_model report)
 
 -- ---- files with too many bytes
 
 pub never_too_large : Laws → (files : Files) (command : Command) (status : Status) (text : List ℕ)
     → IsOutputFor (Some files) command status text → IsTooLargeFor (Some files) command → ⊥
-never_too_large laws files (Compile file) status text (inl x) large = never_large files file x.bytes x.read large
-never_too_large laws files (Compile file) status text (inr x) large = never_large files file x.has_model.bytes x.has_model.read large
-never_too_large laws files (Run file code stimuli steps) status text (inl x) (inl large) = never_large files file x.bytes x.read large
-never_too_large laws files (Run file code stimuli steps) status text (inl x) (inr (inl large)) = never_reported laws files file text large.0 status large.1 x
-never_too_large laws files (Run file code stimuli steps) status text (inl x) (inr (inr large)) = never_reported laws files file text large.0 status large.1 x
-never_too_large laws files (Run file code stimuli steps) status text (inr (inl x)) (inl large) = never_large files file x.has_model.bytes x.has_model.read large
-never_too_large laws files (Run file code stimuli steps) status text (inr (inl x)) (inr (inl large)) = never_large files code x.bytes x.read large.2
-never_too_large laws files (Run file code stimuli steps) status text (inr (inl x)) (inr (inr large)) = never_bad_line laws files file code text status large.0 large.2.0 x large.1 large.2.1
-never_too_large laws files (Run file code stimuli steps) status text (inr (inr x)) (inl large) = never_large files file x.has_model.bytes x.has_model.read large
-never_too_large laws files (Run file code stimuli steps) status text (inr (inr x)) (inr (inl large)) = never_large files code x.has_program.bytes x.has_program.read large.2
-never_too_large laws files (Run file code stimuli steps) status text (inr (inr x)) (inr (inr large)) = never_large files stimuli x.traces.bytes x.traces.read large.3
-never_too_large laws files (Simulate file stimuli steps) status text (inl x) (inl large) = never_large files file x.bytes x.read large
-never_too_large laws files (Simulate file stimuli steps) status text (inl x) (inr large) = never_reported laws files file text large.0 status large.1 x
-never_too_large laws files (Simulate file stimuli steps) status text (inr x) (inl large) = never_large files file x.has_model.bytes x.has_model.read large
-never_too_large laws files (Simulate file stimuli steps) status text (inr x) (inr large) = never_large files stimuli x.traces.bytes x.traces.read large.2
+never_too_large laws files (Check names) status text (inl x) large = read_not_large files names x.files x.read large
+never_too_large laws files (Check names) status text (inr x) large = read_not_large files names x.has_model.files x.has_model.read large
+never_too_large laws files (Compile names) status text (inl x) large = read_not_large files names x.files x.read large
+never_too_large laws files (Compile names) status text (inr x) large = read_not_large files names x.has_model.files x.has_model.read large
+never_too_large laws files (Run names code stimuli steps) status text (inl x) (inl large) = read_not_large files names x.files x.read large
+never_too_large laws files (Run names code stimuli steps) status text (inl x) (inr (inl large)) = never_reported laws files names text large.0 status large.1 x
+never_too_large laws files (Run names code stimuli steps) status text (inl x) (inr (inr large)) = never_reported laws files names text large.0 status large.1 x
+never_too_large laws files (Run names code stimuli steps) status text (inr (inl x)) (inl large) = read_not_large files names x.has_model.files x.has_model.read large
+never_too_large laws files (Run names code stimuli steps) status text (inr (inl x)) (inr (inl large)) = never_large files code x.bytes x.read large.2
+never_too_large laws files (Run names code stimuli steps) status text (inr (inl x)) (inr (inr large)) = never_bad_line laws files names code text status large.0 large.2.0 x large.1 large.2.1
+never_too_large laws files (Run names code stimuli steps) status text (inr (inr x)) (inl large) = read_not_large files names x.has_model.files x.has_model.read large
+never_too_large laws files (Run names code stimuli steps) status text (inr (inr x)) (inr (inl large)) = never_large files code x.has_program.bytes x.has_program.read large.2
+never_too_large laws files (Run names code stimuli steps) status text (inr (inr x)) (inr (inr large)) = never_large files stimuli x.traces.bytes x.traces.read large.3
+never_too_large laws files (Simulate names stimuli steps) status text (inl x) (inl large) = read_not_large files names x.files x.read large
+never_too_large laws files (Simulate names stimuli steps) status text (inl x) (inr large) = never_reported laws files names text large.0 status large.1 x
+never_too_large laws files (Simulate names stimuli steps) status text (inr x) (inl large) = read_not_large files names x.has_model.files x.has_model.read large
+never_too_large laws files (Simulate names stimuli steps) status text (inr x) (inr large) = never_large files stimuli x.traces.bytes x.traces.read large.2

@@ -1,6 +1,6 @@
 -- Two simulations that are not cut short show the same, and a run of a program that agrees with a model is not cut short where it
 -- has enough statements for units of work with which the model comes to an end.
-use Rattle.std.proofs.Common.{◌≡◌, ◌∙◌, ℕ, ◌≤◌, Bool, true, false, List, [], ◌∷◌, ◌++◌, Option, Some, None, sym, ap, subst, inl, inr, refl, arith}
+use Rattle.std.proofs.Common.{◌≡◌, ◌∙◌, ℕ, ◌≤◌, Bool, true, false, List, [], ◌∷◌, ◌++◌, map, Option, Some, None, sym, ap, subst, inl, inr, refl, arith}
 use Rattle.std.specs.Prelude.{◌||◌, nat_lt}
 use Rattle.std.proofs.lemmas.Bool.{false≢true, ltb-true, ltb-false}
 use Rattle.og_base.specs.Store.{Files}
@@ -23,7 +23,7 @@ use Rattle.og_trace.specs.Stims.{BadLine, stims_of, given}
 use Rattle.og_trace.specs.Traces.{trace_of, outcome_by, outcome_of, at_file_end, line_if_bad, run_outcome, run_text, shown_over_file}
 use Rattle.og_tool.specs.declared.status.Status.{Status}
 use Rattle.og_tool.specs.declared.status.Status.TheVariants as status
-use Rattle.og_tool.specs.Answers.{HasModel, IsTrace, IsSimulation, IsOutputFor, status_of}
+use Rattle.og_tool.specs.Answers.{as_word, IsTrace, IsOutputFor, status_of}
 use Rattle.og_tool.specs.Words.{Simulate}
 use Rattle.og_tool.proofs.OneOutput.{Laws, same_bytes, same_model, never_reported, same_report}
 use Rattle.og_tool.proofs.GivenStimuli.{stimuli_are_taken}
@@ -102,33 +102,33 @@ module _ (laws : RunLaws) (M : Model) (basic : UsesBasicStatesOnly M) (P Q : CPr
   same_over_file text steps p q =
       same_shown (given (stims_of M text).list) (stimuli_are_taken M basic text) steps (not_past M P text steps p) (not_past M Q text steps q)
 
-  same_traces : (files : Files) (file stimuli : List ℕ) (steps : ℕ) (one two : Status) (text more : List ℕ)
-      → IsTrace (Some files) M P file stimuli steps one text → IsTrace (Some files) M Q file stimuli steps two more
+  same_traces : (files : Files) (names : List (List ℕ)) (stimuli : List ℕ) (steps : ℕ) (one two : Status) (text more : List ℕ)
+      → IsTrace (Some files) M P names stimuli steps one text → IsTrace (Some files) M Q names stimuli steps two more
       → (one ≡ status.Past → ⊥) → (two ≡ status.Past → ⊥) → (one ≡ two) × (text ≡ more)
-  same_traces files file stimuli steps one two text more x y p q =
+  same_traces files names stimuli steps one two text more x y p q =
       let bytes : y.bytes ≡ x.bytes = same_bytes files stimuli y.bytes x.bytes y.read x.read in
       let ends : two ≡ status_of (run_outcome M Q x.bytes steps) = y.ends ∙ ap (λ bs. status_of (run_outcome M Q bs steps)) bytes in
-      let is : more ≡ run_text M Q file stimuli x.bytes steps = y.is ∙ ap (λ bs. run_text M Q file stimuli bs steps) bytes in
+      let is : more ≡ run_text M Q (map as_word names) stimuli x.bytes steps = y.is ∙ ap (λ bs. run_text M Q (map as_word names) stimuli bs steps) bytes in
       let bad = (stims_of M x.bytes).bad in
       let same = same_over_file x.bytes steps (λ e. p (x.ends ∙ ap status_of e)) (λ e. q (ends ∙ ap status_of e)) in (
         x.ends ∙ ap (λ shown. status_of (outcome_of (at_file_end bad) shown)) same ∙ sym ends,
         x.is
-            ∙ ap (λ shown. trace_of M (record { bytes = file } ∷ []) (Start ∷ (stims_of M x.bytes).list) shown ++ line_if_bad (outcome_of (at_file_end bad) shown) stimuli bad) same
+            ∙ ap (λ shown. trace_of M (map as_word names) (Start ∷ (stims_of M x.bytes).list) shown ++ line_if_bad (outcome_of (at_file_end bad) shown) stimuli bad) same
             ∙ sym is,
       )
 
-pub one_simulation : Laws → RunLaws → (files : Files) (file stimuli : List ℕ) (steps : ℕ) (one two : Status) (text more : List ℕ)
-    → IsOutputFor (Some files) (Simulate file stimuli steps) one text → IsOutputFor (Some files) (Simulate file stimuli steps) two more
+pub one_simulation : Laws → RunLaws → (files : Files) (names : List (List ℕ)) (stimuli : List ℕ) (steps : ℕ) (one two : Status) (text more : List ℕ)
+    → IsOutputFor (Some files) (Simulate names stimuli steps) one text → IsOutputFor (Some files) (Simulate names stimuli steps) two more
     → (one ≡ status.Past → ⊥) → (two ≡ status.Past → ⊥) → (one ≡ two) × (text ≡ more)
-one_simulation laws more files file stimuli steps one two text other (inl x) (inl y) p q = same_report laws files file text other one two x y
-one_simulation laws more files file stimuli steps one two text other (inl x) (inr y) p q = absurd (never_reported laws files file text y.model one y.has_model x)
-one_simulation laws more files file stimuli steps one two text other (inr x) (inl y) p q = absurd (never_reported laws files file other x.model two x.has_model y)
-one_simulation laws more files file stimuli steps one two text other (inr x) (inr y) p q =
-    let models : y.model ≡ x.model = same_model laws files file y.model x.model y.has_model x.has_model in
+one_simulation laws more files names stimuli steps one two text other (inl x) (inl y) p q = same_report laws files names text other one two x y
+one_simulation laws more files names stimuli steps one two text other (inl x) (inr y) p q = absurd (never_reported laws files names text y.model one y.has_model x)
+one_simulation laws more files names stimuli steps one two text other (inr x) (inl y) p q = absurd (never_reported laws files names other x.model two x.has_model y)
+one_simulation laws more files names stimuli steps one two text other (inr x) (inr y) p q =
+    let models : y.model ≡ x.model = same_model laws files names y.model x.model y.has_model x.has_model in
     let A : Model → Type 0 = λ model. SameBehaviour model y.program in
-    let T : Model → Type 0 = λ model. IsTrace (Some files) model y.program file stimuli steps two other in
-    let basic : UsesBasicStatesOnly x.model = subst UsesBasicStatesOnly (sym x.has_model.is) (more.basic x.has_model.system) in
-    same_traces more x.model basic x.program y.program x.agrees (subst A models y.agrees) files file stimuli steps one two text other x.traces (subst T models y.traces) p q
+    let T : Model → Type 0 = λ model. IsTrace (Some files) model y.program names stimuli steps two other in
+    let basic : UsesBasicStatesOnly x.model = subst UsesBasicStatesOnly (sym x.has_model.have.is) (more.basic x.has_model.have.system) in
+    same_traces more x.model basic x.program y.program x.agrees (subst A models y.agrees) files names stimuli steps one two text other x.traces (subst T models y.traces) p q
 
 -- ---- enough statements
 

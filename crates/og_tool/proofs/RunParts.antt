@@ -10,7 +10,7 @@ use Rattle.og_trace.specs.Traces.{run_outcome}
 use Rattle.og_tool.specs.declared.status.Status.{Status}
 use Rattle.og_tool.specs.declared.status.Status.TheVariants.{Done, Refused, BadFile, Past, Faulted, Stuck}
 use Rattle.og_tool.specs.Answers.{IsOutputFor, IsSimulation, status_of}
-use Rattle.og_tool.specs.Words.{Command, Compile, Run, Simulate, AsksFor, AskForRun}
+use Rattle.og_tool.specs.Words.{Command, Check, Compile, Run, Simulate, AsksFor, AskForRun}
 use Rattle.og_tool.proofs.GivenStimuli.{agreeing_is_never_stuck}
 use Rattle.og_front.proofs.Resolving.{model_is_basic}
 use Rattle.og_base.specs.declared.ModelError.{ModelError}
@@ -56,9 +56,9 @@ built_if (Err error) bytes system text built = _
 -- ---- what a command calls for
 
 -- a simulation is never stuck
-not_stuck : (told : Option Files) (file stimuli : List ℕ) (steps : ℕ) (text : List ℕ) → IsSimulation told file stimuli steps Stuck text → ⊥
-not_stuck told file stimuli steps text is =
-    let basic : UsesBasicStatesOnly is.model = subst UsesBasicStatesOnly (sym is.has_model.is) (model_is_basic is.has_model.system) in
+not_stuck : (told : Option Files) (names : List (List ℕ)) (stimuli : List ℕ) (steps : ℕ) (text : List ℕ) → IsSimulation told names stimuli steps Stuck text → ⊥
+not_stuck told names stimuli steps text is =
+    let basic : UsesBasicStatesOnly is.model = subst UsesBasicStatesOnly (sym is.has_model.have.is) (model_is_basic is.has_model.have.system) in
     agreeing_is_never_stuck is.model is.program is.agrees basic is.traces.bytes steps (stuck_only (run_outcome is.model is.program is.traces.bytes steps) is.traces.ends)
   where
     stuck_only : (o : Outcome) → Stuck ≡ status_of o → o ≡ outcome.Stuck
@@ -70,11 +70,13 @@ not_stuck told file stimuli steps text is =
 
 -- what was written for a command is stuck only where the command is a run
 asks_for_run : (words : List (List ℕ)) (told : Option Files) (command : Command) (text : List ℕ) → AsksFor words command → IsOutputFor told command Stuck text → AskForRun words
-asks_for_run words told (Compile file) text asks (inl report) = absurd (let h : Stuck ≡ Refused = report.refused in cc)
-asks_for_run words told (Compile file) text asks (inr code) = absurd (let h : Stuck ≡ Done = code.done in cc)
-asks_for_run words told (Run file program stimuli steps) text asks output = (file, program, stimuli, steps, asks)
-asks_for_run words told (Simulate file stimuli steps) text asks (inl report) = absurd (let h : Stuck ≡ Refused = report.refused in cc)
-asks_for_run words told (Simulate file stimuli steps) text asks (inr simulation) = absurd (not_stuck told file stimuli steps text simulation)
+asks_for_run words told (Check names) text asks (inl report) = absurd (let h : Stuck ≡ Refused = report.refused in cc)
+asks_for_run words told (Check names) text asks (inr acceptance) = absurd (let h : Stuck ≡ Done = acceptance.done in cc)
+asks_for_run words told (Compile names) text asks (inl report) = absurd (let h : Stuck ≡ Refused = report.refused in cc)
+asks_for_run words told (Compile names) text asks (inr code) = absurd (let h : Stuck ≡ Done = code.done in cc)
+asks_for_run words told (Run names program stimuli steps) text asks output = (names, program, stimuli, steps, asks)
+asks_for_run words told (Simulate names stimuli steps) text asks (inl report) = absurd (let h : Stuck ≡ Refused = report.refused in cc)
+asks_for_run words told (Simulate names stimuli steps) text asks (inr simulation) = absurd (not_stuck told names stimuli steps text simulation)
 
 pub stuck_runs : (words : List (List ℕ)) (told : Option Files) (command : Command) (status : Status) (was is : List ℕ → ℕ) (old new : Option (List ℕ)) (before after : ℕ)
     → AsksFor words command → CommandAnswer status told command was is old new before after → status ≡ Stuck → AskForRun words

@@ -1,19 +1,22 @@
 -- What the parts of the top call answer.
-use Rattle.std.specs.Prelude.{◌≡◌, ℕ, List, Option, Some, None}
+use Rattle.std.specs.Prelude.{◌≡◌, ℕ, List, [], ◌∷◌, map, slice_get, Option, Some, None}
+use Rattle.std.specs.declared.alloc.Global.{Global}
+use Rattle.std.specs.declared.vec.Vec.{Vec}
 use Rattle.og_base.specs.declared.ModelError.{ModelError}
 use Rattle.og_base.specs.declared.read.ReadError.{ReadError}
 use Rattle.og_base.specs.declared.read.ReadError.TheVariants as unread
 use Rattle.og_base.specs.declared.ModelError.TheVariants as error
+use Rattle.og_base.specs.declared.Violation.{Violation}
 use Rattle.og_base.specs.Store.{Files, Rose}
 use Rattle.og_base.specs.Sink.{grown, WroteFront}
 use Rattle.og_model.specs.declared.Model.{Model}
-use Rattle.og_tool.specs.declared.reading.ModelFile.{ModelFile}
-use Rattle.og_tool.specs.declared.reading.ModelFile.TheVariants as file
+use Rattle.og_tool.specs.declared.reading.Judgement.{Judgement}
+use Rattle.og_tool.specs.declared.reading.Judgement.TheVariants as judged
 use Rattle.og_tool.specs.declared.status.Status.{Status}
 use Rattle.og_tool.specs.declared.status.Status.TheVariants.{Done, Refused, Usage, ReadFault, WriteFault, NoMemory, BadFile, Past, Faulted, Stuck, TooLarge}
 use Rattle.og_front.specs.declared.syntax.SystemText.{SystemText}
-use Rattle.og_tool.specs.Answers.{HasModel, IsReport, IsOutputFor, FailedFor, IsTooLargeFor}
-use Rattle.og_front.specs.Files.{Accepts, FirstViolation}
+use Rattle.og_tool.specs.Answers.{HasRead, HasModel, IsReport, IsOutputFor, FailedFor, IsTooLargeFor}
+use Rattle.og_front.specs.Files.{Accepts, FirstViolation, report_line}
 use Rattle.og_front.specs.ModelOf.{model_of_tree}
 use Rattle.og_tool.specs.Ready.{CanRun}
 use Rattle.og_front.specs.Rules.{first_of_rules}
@@ -44,18 +47,33 @@ pub record IsBuilt (bytes : List ℕ) (model : Model) : Type 0 where
   pub is : model ≡ model_of_tree system
   pub can : CanRun model
 
--- the file was read, and this is its model
-pub record IsReady (told : Option Files) (name : List ℕ) (model : Model) : Type 0 where
-  pub has_model : HasModel told name model
+-- the bytes in vectors
+abbrev pub seen : List (Vec ℕ Global) → List (List ℕ)
+seen contents = map (λ bytes. bytes.items) contents
+
+-- these are the bytes of the files of these names
+abbrev pub AreContents : Option Files → List (List ℕ) → List (List ℕ) → Type 0
+AreContents told [] [] = Unit {0}
+AreContents told [] (bytes ∷ contents) = ⊥
+AreContents told (name ∷ names) [] = ⊥
+AreContents told (name ∷ names) (bytes ∷ contents) = HasRead told name bytes × AreContents told names contents
+
+-- the files were read, and this is their model
+pub record IsReady (told : Option Files) (names : List (List ℕ)) (model : Model) : Type 0 where
+  pub has_model : HasModel told names model
   pub can : CanRun model
 
-abbrev pub TellsModel : Option Files → List ℕ → ModelFile → Type 0
-TellsModel told name (file.Accepted model) = IsReady told name model
-TellsModel told name (file.Refused line) = IsReport told name Refused line.items
+abbrev pub TellsModel : Option Files → List (List ℕ) → Judgement → Type 0
+TellsModel told names (judged.Accepted model) = IsReady told names model
+TellsModel told names (judged.Refused line) = IsReport told names Refused line.items
 
-abbrev pub IsRefusal : List ℕ → ModelFile → Type 0
-IsRefusal line (file.Accepted model) = ⊥
-IsRefusal line (file.Refused text) = text.items ≡ line
+abbrev pub IsRefusal : List ℕ → Judgement → Type 0
+IsRefusal line (judged.Accepted model) = ⊥
+IsRefusal line (judged.Refused text) = text.items ≡ line
+
+-- the line of the violation, with the name of the file in which it is
+abbrev pub IsRefusalOf : List (List ℕ) → Violation → Judgement → Type 0
+IsRefusalOf names v judgement = (name : List ℕ) × (slice_get names v.place.file ≡ Some name) × IsRefusal (report_line name v) judgement
 
 -- ---- carrying out a command
 

@@ -1,6 +1,6 @@
 -- What the top call answers and writes. Each answer has its cause: in the words, in the bytes that the store tells, or in a
 -- count of failures that rose. What a command calls for is one text with one status.
-use Rattle.std.specs.Prelude.{◌≡◌, ◌⊎◌, ℕ, ◌≤◌, List, length, Option, None}
+use Rattle.std.specs.Prelude.{◌≡◌, ◌⊎◌, ℕ, ◌≤◌, List, [], ◌∷◌, ◌++◌, length, map, slice_get, Option, Some, None, codes}
 use Rattle.og_base.specs.declared.Violation.{Violation}
 use Rattle.og_base.specs.Store.{Files, Holds, HoldsMore, Rose}
 use Rattle.og_base.specs.Sink.{grown, WroteFront}
@@ -14,12 +14,13 @@ use Rattle.og_trace.specs.Traces.{run_text, run_outcome}
 use Rattle.og_tool.specs.declared.program.BadProgram.{BadProgram}
 use Rattle.og_tool.specs.declared.status.Status.{Status}
 use Rattle.og_tool.specs.declared.status.Status.TheVariants.{Done, Refused, BadFile, Past, Faulted, Stuck}
-use Rattle.og_front.specs.declared.syntax.SystemText.{SystemText}
 use Rattle.og_tool.specs.Compiled.{IsCompiled}
-use Rattle.og_front.specs.Files.{Accepts, FirstViolation, report_line}
-use Rattle.og_front.specs.ModelOf.{model_of_tree}
+use Rattle.og_front.specs.Files.{report_line}
+use Rattle.og_names.specs.declared.Word.{Word}
+use Rattle.og_names.specs.Folding.{folded}
+use Rattle.og_tool.specs.Judging.{SourceFile, IsFirstViolation, HaveModel}
 use Rattle.og_tool.specs.Programs.{IsTextOfProgram, IsBadFor, bad_program_line}
-use Rattle.og_tool.specs.Words.{Command, Compile, Run, Simulate, AsksFor}
+use Rattle.og_tool.specs.Words.{Command, Check, Compile, Run, Simulate, AsksFor}
 
 -- the most bytes that a file may have
 abbrev pub limit : ℕ
@@ -32,13 +33,18 @@ pub record HasRead (told : Option Files) (file bytes : List ℕ) : Type 0 where
   pub holds : Holds told file bytes
   pub small : length bytes ≤ limit
 
--- the file was read, and it is accepted: the bytes are a text of a tree that keeps the rules, and this is its model
-pub record HasModel (told : Option Files) (file : List ℕ) (model : Model) : Type 0 where
-  pub bytes : List ℕ
-  pub read : HasRead told file bytes
-  pub system : SystemText
-  pub accepts : Accepts bytes system
-  pub is : model ≡ model_of_tree system
+-- the files of these names were read, in their order
+abbrev pub AreRead : Option Files → List (List ℕ) → List SourceFile → Type 0
+AreRead told [] [] = Unit {0}
+AreRead told [] (file ∷ files) = ⊥
+AreRead told (name ∷ names) [] = ⊥
+AreRead told (name ∷ names) (file ∷ files) = (file.name ≡ name) × HasRead told name file.bytes × AreRead told names files
+
+-- the model files were read, and they are accepted with this model
+pub record HasModel (told : Option Files) (names : List (List ℕ)) (model : Model) : Type 0 where
+  pub files : List SourceFile
+  pub read : AreRead told names files
+  pub have : HaveModel files model
 
 -- the file was read, and the program that it spells can be run over the model
 pub record HasProgram (told : Option Files) (file : List ℕ) (model : Model) (program : CProgram) : Type 0 where
@@ -49,19 +55,32 @@ pub record HasProgram (told : Option Files) (file : List ℕ) (model : Model) (p
 
 -- ---- what a command calls for
 
--- the line that names the first violation in a model file of this name
-pub record IsReport (told : Option Files) (file : List ℕ) (status : Status) (line : List ℕ) : Type 0 where
-  pub bytes : List ℕ
-  pub read : HasRead told file bytes
+-- the line that names the first violation in the model files of these names, with the name of the file in which it is
+pub record IsReport (told : Option Files) (names : List (List ℕ)) (status : Status) (line : List ℕ) : Type 0 where
+  pub files : List SourceFile
+  pub read : AreRead told names files
   pub violation : Violation
-  pub first : FirstViolation bytes violation
-  pub is : line ≡ report_line file violation
+  pub first : IsFirstViolation files violation
+  pub name : List ℕ
+  pub named : slice_get names violation.place.file ≡ Some name
+  pub is : line ≡ report_line name violation
   pub refused : status ≡ Refused
 
--- the C of an accepted model
-pub record IsCode (told : Option Files) (file : List ℕ) (status : Status) (text : List ℕ) : Type 0 where
+-- accepted NAME
+abbrev pub accepted_line : List ℕ → List ℕ
+accepted_line name = codes "accepted " ++ name ++ 10 ∷ []
+
+-- the line that says that the model files are accepted, with the folded name of the process
+pub record IsAcceptance (told : Option Files) (names : List (List ℕ)) (status : Status) (line : List ℕ) : Type 0 where
   pub model : Model
-  pub has_model : HasModel told file model
+  pub has_model : HasModel told names model
+  pub is : line ≡ accepted_line (folded has_model.have.system.process.word.bytes)
+  pub done : status ≡ Done
+
+-- the C of an accepted model
+pub record IsCode (told : Option Files) (names : List (List ℕ)) (status : Status) (text : List ℕ) : Type 0 where
+  pub model : Model
+  pub has_model : HasModel told names model
   pub compiled : IsCompiled model text
   pub done : status ≡ Done
 
@@ -72,33 +91,37 @@ status_of outcome.Past = Past
 status_of outcome.Faulted = Faulted
 status_of outcome.Stuck = Stuck
 
+-- the word of a file
+abbrev pub as_word : List ℕ → Word
+as_word name = record { bytes = name }
+
 -- the stimuli were read, and this is what the program writes over them, with the status of how it ends
-pub record IsTrace (told : Option Files) (model : Model) (program : CProgram) (file stimuli : List ℕ) (steps : ℕ) (status : Status) (text : List ℕ) : Type 0 where
+pub record IsTrace (told : Option Files) (model : Model) (program : CProgram) (names : List (List ℕ)) (stimuli : List ℕ) (steps : ℕ) (status : Status) (text : List ℕ) : Type 0 where
   pub bytes : List ℕ
   pub read : HasRead told stimuli bytes
-  pub is : text ≡ run_text model program file stimuli bytes steps
+  pub is : text ≡ run_text model program (map as_word names) stimuli bytes steps
   pub ends : status ≡ status_of (run_outcome model program bytes steps)
 
 -- a run of the program that the program's file spells
-pub record IsRun (told : Option Files) (file code stimuli : List ℕ) (steps : ℕ) (status : Status) (text : List ℕ) : Type 0 where
+pub record IsRun (told : Option Files) (names : List (List ℕ)) (code stimuli : List ℕ) (steps : ℕ) (status : Status) (text : List ℕ) : Type 0 where
   pub model : Model
-  pub has_model : HasModel told file model
+  pub has_model : HasModel told names model
   pub program : CProgram
   pub has_program : HasProgram told code model program
-  pub traces : IsTrace told model program file stimuli steps status text
+  pub traces : IsTrace told model program names stimuli steps status text
 
 -- a run of a program that agrees with the model
-pub record IsSimulation (told : Option Files) (file stimuli : List ℕ) (steps : ℕ) (status : Status) (text : List ℕ) : Type 0 where
+pub record IsSimulation (told : Option Files) (names : List (List ℕ)) (stimuli : List ℕ) (steps : ℕ) (status : Status) (text : List ℕ) : Type 0 where
   pub model : Model
-  pub has_model : HasModel told file model
+  pub has_model : HasModel told names model
   pub program : CProgram
   pub agrees : SameBehaviour model program
-  pub traces : IsTrace told model program file stimuli steps status text
+  pub traces : IsTrace told model program names stimuli steps status text
 
 -- the line that says what is wrong with the program's file
-pub record IsBadLine (told : Option Files) (file code : List ℕ) (status : Status) (line : List ℕ) : Type 0 where
+pub record IsBadLine (told : Option Files) (names : List (List ℕ)) (code : List ℕ) (status : Status) (line : List ℕ) : Type 0 where
   pub model : Model
-  pub has_model : HasModel told file model
+  pub has_model : HasModel told names model
   pub bytes : List ℕ
   pub read : HasRead told code bytes
   pub wrong : BadProgram
@@ -108,11 +131,12 @@ pub record IsBadLine (told : Option Files) (file code : List ℕ) (status : Stat
 
 -- this text is what the command calls for, with this status
 abbrev pub IsOutputFor : Option Files → Command → Status → List ℕ → Type 0
-IsOutputFor told (Compile file) status text = IsReport told file status text ⊎ IsCode told file status text
-IsOutputFor told (Run file code stimuli steps) status text =
-    IsReport told file status text ⊎ (IsBadLine told file code status text ⊎ IsRun told file code stimuli steps status text)
-IsOutputFor told (Simulate file stimuli steps) status text =
-    IsReport told file status text ⊎ IsSimulation told file stimuli steps status text
+IsOutputFor told (Check names) status text = IsReport told names status text ⊎ IsAcceptance told names status text
+IsOutputFor told (Compile names) status text = IsReport told names status text ⊎ IsCode told names status text
+IsOutputFor told (Run names code stimuli steps) status text =
+    IsReport told names status text ⊎ (IsBadLine told names code status text ⊎ IsRun told names code stimuli steps status text)
+IsOutputFor told (Simulate names stimuli steps) status text =
+    IsReport told names status text ⊎ IsSimulation told names stimuli steps status text
 
 -- ---- what was written
 
@@ -139,46 +163,62 @@ pub record WroteSome (words : List (List ℕ)) (told : Option Files) (old new : 
 abbrev pub RoseAt : List ℕ → (old new : List ℕ → ℕ) → Type 0
 RoseAt file old new = Rose (old file) (new file)
 
+-- a file was read
+abbrev pub IsRead : Option Files → List ℕ → Type 0
+IsRead told file = (bytes : List ℕ) × HasRead told file bytes
+
+-- reading one of the files of these names failed in this call, and those before it were read
+abbrev pub FailedAmong : Option Files → List (List ℕ) → (old new : List ℕ → ℕ) → Type 0
+FailedAmong told [] old new = ⊥
+FailedAmong told (name ∷ names) old new = RoseAt name old new ⊎ (IsRead told name × FailedAmong told names old new)
+
 -- the model is accepted, and reading the program's file failed in this call
-abbrev pub FailedAtProgram : Option Files → (file code : List ℕ) → (old new : List ℕ → ℕ) → Type 0
-FailedAtProgram told file code old new = (model : Model) × HasModel told file model × RoseAt code old new
+abbrev pub FailedAtProgram : Option Files → List (List ℕ) → List ℕ → (old new : List ℕ → ℕ) → Type 0
+FailedAtProgram told names code old new = (model : Model) × HasModel told names model × RoseAt code old new
 
 -- the program can be run over the model, and reading the file of stimuli failed in this call
-abbrev pub FailedAtStimuli : Option Files → (file code stimuli : List ℕ) → (old new : List ℕ → ℕ) → Type 0
-FailedAtStimuli told file code stimuli old new =
-    (model : Model) × HasModel told file model × ((program : CProgram) × HasProgram told code model program) × RoseAt stimuli old new
+abbrev pub FailedAtStimuli : Option Files → List (List ℕ) → (code stimuli : List ℕ) → (old new : List ℕ → ℕ) → Type 0
+FailedAtStimuli told names code stimuli old new =
+    (model : Model) × HasModel told names model × ((program : CProgram) × HasProgram told code model program) × RoseAt stimuli old new
 
 -- reading a file of the command failed in this call; the files before it were read whole, and they hold an accepted model and
 -- a program that can be run
 abbrev pub FailedFor : Option Files → Command → (old new : List ℕ → ℕ) → Type 0
-FailedFor told (Compile file) old new = RoseAt file old new
-FailedFor told (Run file code stimuli steps) old new =
-    RoseAt file old new ⊎ (FailedAtProgram told file code old new ⊎ FailedAtStimuli told file code stimuli old new)
-FailedFor told (Simulate file stimuli steps) old new =
-    RoseAt file old new ⊎ ((model : Model) × HasModel told file model × RoseAt stimuli old new)
+FailedFor told (Check names) old new = FailedAmong told names old new
+FailedFor told (Compile names) old new = FailedAmong told names old new
+FailedFor told (Run names code stimuli steps) old new =
+    FailedAmong told names old new ⊎ (FailedAtProgram told names code old new ⊎ FailedAtStimuli told names code stimuli old new)
+FailedFor told (Simulate names stimuli steps) old new =
+    FailedAmong told names old new ⊎ ((model : Model) × HasModel told names model × RoseAt stimuli old new)
 
 pub record FailedToRead (words : List (List ℕ)) (told : Option Files) (old new : List ℕ → ℕ) : Type 0 where
   pub command : Command
   pub asks : AsksFor words command
   pub failed : FailedFor told command old new
 
+-- one of the files of these names has too many bytes, and those before it were read
+abbrev pub IsLargeAmong : Option Files → List (List ℕ) → Type 0
+IsLargeAmong told [] = ⊥
+IsLargeAmong told (name ∷ names) = HoldsMore told name limit ⊎ (IsRead told name × IsLargeAmong told names)
+
 -- the model is accepted, and the program's file has too many bytes
-abbrev pub IsLargeProgram : Option Files → (file code : List ℕ) → Type 0
-IsLargeProgram told file code = (model : Model) × HasModel told file model × HoldsMore told code limit
+abbrev pub IsLargeProgram : Option Files → List (List ℕ) → List ℕ → Type 0
+IsLargeProgram told names code = (model : Model) × HasModel told names model × HoldsMore told code limit
 
 -- the program can be run over the model, and the file of stimuli has too many bytes
-abbrev pub AreManyStimuli : Option Files → (file code stimuli : List ℕ) → Type 0
-AreManyStimuli told file code stimuli =
-    (model : Model) × HasModel told file model × ((program : CProgram) × HasProgram told code model program) × HoldsMore told stimuli limit
+abbrev pub AreManyStimuli : Option Files → List (List ℕ) → (code stimuli : List ℕ) → Type 0
+AreManyStimuli told names code stimuli =
+    (model : Model) × HasModel told names model × ((program : CProgram) × HasProgram told code model program) × HoldsMore told stimuli limit
 
 -- a file of the command has too many bytes; the files before it do not, and they hold an accepted model and a program that
 -- can be run
 abbrev pub IsTooLargeFor : Option Files → Command → Type 0
-IsTooLargeFor told (Compile file) = HoldsMore told file limit
-IsTooLargeFor told (Run file code stimuli steps) =
-    HoldsMore told file limit ⊎ (IsLargeProgram told file code ⊎ AreManyStimuli told file code stimuli)
-IsTooLargeFor told (Simulate file stimuli steps) =
-    HoldsMore told file limit ⊎ ((model : Model) × HasModel told file model × HoldsMore told stimuli limit)
+IsTooLargeFor told (Check names) = IsLargeAmong told names
+IsTooLargeFor told (Compile names) = IsLargeAmong told names
+IsTooLargeFor told (Run names code stimuli steps) =
+    IsLargeAmong told names ⊎ (IsLargeProgram told names code ⊎ AreManyStimuli told names code stimuli)
+IsTooLargeFor told (Simulate names stimuli steps) =
+    IsLargeAmong told names ⊎ ((model : Model) × HasModel told names model × HoldsMore told stimuli limit)
 
 pub record IsTooLarge (words : List (List ℕ)) (told : Option Files) : Type 0 where
   pub command : Command

@@ -1,4 +1,5 @@
 pub mod Words
+pub mod Judging
 pub mod Answers
 pub mod Answering
 pub mod Statuses

@@ -1,9 +1,13 @@
 //! The words of the command line.
-ghost use Rattle.std.specs.Prelude.{◌≡◌, ℕ, ◌∷◌, [], ◌↔◌, IfSome, IfNone, IsTrue, map, string_bytes, codes, decimal};
-ghost use Rattle.og_tool.specs.Asked.{asked};
-ghost use Rattle.og_tool.specs.Words.{AsksFor, IsNoCommand, HasEnding, IsModelFile, IsProgramFile, IsStimuliFile, IsSteps};
+ghost use Rattle.std.specs.Prelude.{◌≡◌, ◌≢◌, ℕ, List, ◌∷◌, ◌++◌, ◌↔◌, IfSome, IfNone, IsTrue, length, string_bytes, codes, decimal};
+ghost use Rattle.std.specs.List.{AllByRecursion};
+ghost use Rattle.og_tool.specs.Asked.{texts, asked, BeginsNoFile, Fits, FitsNone, IsStimuliWith};
+ghost use Rattle.og_tool.specs.Words.{AsksFor, IsNoCommand, HasEnding, IsSdlFile, IsAsnFile, IsModelFile, IsProgramFile, IsStimuliFile, AreDifferent, HasSdlFile, CanBeTaken, AreModelFiles, IsSteps, GivesSteps};
 
 use itoa::Buffer;
+
+/// The most model files of a command.
+const MOST_FILES: usize = 64;
 
 /// The statements that a stimulus may take where the words do not say it.
 const DEFAULT_STEPS: u32 = 1000000;
@@ -11,149 +15,193 @@ const DEFAULT_STEPS: u32 = 1000000;
 /// The most statements that a stimulus may be given.
 const MOST_STEPS: u32 = 1000000000;
 
-/// What words ask for.
+/// What words ask for, with the words of its model files.
 #[derive(Clone, Copy, Debug, Drop)]
 pub enum Command<'a> {
-    /// `cc FILE`.
-    Compile(&'a str),
-    /// `run FILE CFILE STIM`, with the most statements for the start and for each stimulus.
-    Run(&'a str, &'a str, &'a str, u32),
-    /// `sim FILE STIM`, with the most statements for the start and for each stimulus.
-    Simulate(&'a str, &'a str, u32),
+    /// `check FILES`.
+    Check(&'a [String]),
+    /// `cc FILES`.
+    Compile(&'a [String]),
+    /// `run FILES CFILE STIM`, with the most statements for the start and for each stimulus.
+    Run(&'a [String], &'a str, &'a str, u32),
+    /// `sim FILES STIM`, with the most statements for the start and for each stimulus.
+    Simulate(&'a [String], &'a str, u32),
 }
 
-/// The command that the words have the form of. The number of the words tells which form it can be.
+/// The command that the words have the form of.
 pub fn command_of(words: &Vec<String>) -> Option<Command<'_>>
-    ensures found { IfSome result (λ command. AsksFor (map string_bytes words.now.items) (asked command)) }
-    ensures none { IfNone result (IsNoCommand (map string_bytes words.now.items)) }
+    ensures found { IfSome result (λ command. AsksFor (texts words.now.items) (asked command)) }
+    ensures none { IfNone result (IsNoCommand (texts words.now.items)) }
 {
-    match words.as_slice() {
-        [name, file] => compile_asked(name.as_str(), file.as_str()),
-        [name, file, stimuli] => {
-            simulation_asked(name.as_str(), file.as_str(), stimuli.as_str())
+    let (name, rest) = words.as_slice().split_first()?;
+    let (files, behind) = split_files(rest);
+    if are_model_files(files) {
+        command_with(name.as_str(), files, behind)
+    } else {
+        None
+    }
+}
+
+/// The words in front that name model files, and the words behind them.
+fn split_files(words: &[String]) -> (&[String], &[String])
+    ensures joined { words.now ≡ result.0.now ++ result.1.now }
+    ensures files { AllByRecursion IsModelFile (texts result.0.now) }
+    ensures stops { BeginsNoFile (texts result.1.now) }
+{
+    for (count, word) in words.iter().enumerate() {
+        if !is_model_file(word.as_str()) {
+            return words.split_at(count);
         }
-        [name, file, program, stimuli] => run_asked(
-            name.as_str(),
-            file.as_str(),
-            program.as_str(),
-            stimuli.as_str(),
-        ),
-        [name, file, stimuli, option, number] => simulation_with_steps_asked(
-            name.as_str(),
-            file.as_str(),
-            stimuli.as_str(),
-            option.as_str(),
-            number.as_str(),
-        ),
-        [name, file, program, stimuli, option, number] => run_with_steps_asked(
-            name.as_str(),
-            file.as_str(),
-            program.as_str(),
-            stimuli.as_str(),
-            option.as_str(),
-            number.as_str(),
-        ),
-        _ => None,
     }
+    words.split_at(words.len())
 }
 
-/// `cc FILE`.
-fn compile_asked<'a>(name: &str, file: &'a str) -> Option<Command<'a>>
-    ensures found { IfSome result (λ command. AsksFor (name.now ∷ file.now ∷ []) (asked command)) }
-    ensures none { IfNone result (IsNoCommand (name.now ∷ file.now ∷ [])) }
+/// The command of this name over these model files, with what stands behind them.
+fn command_with<'a>(name: &str, files: &'a [String], behind: &'a [String]) -> Option<Command<'a>>
+    ensures found { IfSome result (λ command. Fits name.now (texts files.now) (texts behind.now) (asked command)) }
+    ensures none { IfNone result (FitsNone name.now (texts files.now) (texts behind.now)) }
 {
-    if is_word(name, b"cc") && is_model_file(file) {
-        Some(Command::Compile(file))
+    if is_word(name, b"check") {
+        check_asked(files, behind)
+    } else if is_word(name, b"cc") {
+        compile_asked(files, behind)
+    } else if is_word(name, b"run") {
+        run_asked(files, behind)
+    } else if is_word(name, b"sim") {
+        simulation_asked(files, behind)
     } else {
         None
     }
 }
 
-/// `sim FILE STIM`.
-fn simulation_asked<'a>(name: &str, file: &'a str, stimuli: &'a str) -> Option<Command<'a>>
-    ensures found { IfSome result (λ command. AsksFor (name.now ∷ file.now ∷ stimuli.now ∷ []) (asked command)) }
-    ensures none { IfNone result (IsNoCommand (name.now ∷ file.now ∷ stimuli.now ∷ [])) }
+/// Nothing behind the model files of `check`.
+fn check_asked<'a>(files: &'a [String], behind: &[String]) -> Option<Command<'a>>
+    ensures found { IfSome result (λ command. Fits (codes "check") (texts files.now) (texts behind.now) (asked command)) }
+    ensures none { IfNone result (FitsNone (codes "check") (texts files.now) (texts behind.now)) }
 {
-    if is_simulation(name, file, stimuli) {
-        Some(Command::Simulate(file, stimuli, DEFAULT_STEPS))
+    if behind.is_empty() {
+        Some(Command::Check(files))
     } else {
         None
     }
 }
 
-/// `sim FILE STIM --steps N`.
-fn simulation_with_steps_asked<'a>(
-    name: &str,
-    file: &'a str,
-    stimuli: &'a str,
-    option: &str,
-    number: &str,
-) -> Option<Command<'a>>
-    ensures found { IfSome result (λ command. AsksFor (name.now ∷ file.now ∷ stimuli.now ∷ option.now ∷ number.now ∷ []) (asked command)) }
-    ensures none { IfNone result (IsNoCommand (name.now ∷ file.now ∷ stimuli.now ∷ option.now ∷ number.now ∷ [])) }
+/// Nothing behind the model files of `cc`.
+fn compile_asked<'a>(files: &'a [String], behind: &[String]) -> Option<Command<'a>>
+    ensures found { IfSome result (λ command. Fits (codes "cc") (texts files.now) (texts behind.now) (asked command)) }
+    ensures none { IfNone result (FitsNone (codes "cc") (texts files.now) (texts behind.now)) }
 {
-    if !is_simulation(name, file, stimuli) {
+    if behind.is_empty() {
+        Some(Command::Compile(files))
+    } else {
+        None
+    }
+}
+
+/// `CFILE STIM [--steps N]` behind the model files of `run`.
+fn run_asked<'a>(files: &'a [String], behind: &'a [String]) -> Option<Command<'a>>
+    ensures found { IfSome result (λ command. Fits (codes "run") (texts files.now) (texts behind.now) (asked command)) }
+    ensures none { IfNone result (FitsNone (codes "run") (texts files.now) (texts behind.now)) }
+{
+    let (program, rest) = behind.split_first()?;
+    if !is_program_file(program.as_str()) {
         return None;
     }
-    match steps_of(option, number) {
-        Some(steps) => Some(Command::Simulate(file, stimuli, steps)),
-        None => None,
-    }
+    let (stimuli, steps) = stimuli_behind(rest)?;
+    Some(Command::Run(files, program.as_str(), stimuli, steps))
 }
 
-/// `run FILE CFILE STIM`.
-fn run_asked<'a>(
-    name: &str,
-    file: &'a str,
-    program: &'a str,
-    stimuli: &'a str,
-) -> Option<Command<'a>>
-    ensures found { IfSome result (λ command. AsksFor (name.now ∷ file.now ∷ program.now ∷ stimuli.now ∷ []) (asked command)) }
-    ensures none { IfNone result (IsNoCommand (name.now ∷ file.now ∷ program.now ∷ stimuli.now ∷ [])) }
+/// `STIM [--steps N]` behind the model files of `sim`.
+fn simulation_asked<'a>(files: &'a [String], behind: &'a [String]) -> Option<Command<'a>>
+    ensures found { IfSome result (λ command. Fits (codes "sim") (texts files.now) (texts behind.now) (asked command)) }
+    ensures none { IfNone result (FitsNone (codes "sim") (texts files.now) (texts behind.now)) }
 {
-    if is_run(name, file, program, stimuli) {
-        Some(Command::Run(file, program, stimuli, DEFAULT_STEPS))
-    } else {
-        None
-    }
+    let (stimuli, steps) = stimuli_behind(behind)?;
+    Some(Command::Simulate(files, stimuli, steps))
 }
 
-/// `run FILE CFILE STIM --steps N`.
-fn run_with_steps_asked<'a>(
-    name: &str,
-    file: &'a str,
-    program: &'a str,
-    stimuli: &'a str,
-    option: &str,
-    number: &str,
-) -> Option<Command<'a>>
-    ensures found { IfSome result (λ command. AsksFor (name.now ∷ file.now ∷ program.now ∷ stimuli.now ∷ option.now ∷ number.now ∷ []) (asked command)) }
-    ensures none { IfNone result (IsNoCommand (name.now ∷ file.now ∷ program.now ∷ stimuli.now ∷ option.now ∷ number.now ∷ [])) }
+/// `STIM [--steps N]`.
+fn stimuli_behind(words: &[String]) -> Option<(&str, u32)>
+    ensures found { IfSome result (λ given. IsStimuliWith given.0.now given.1 (texts words.now)) }
+    ensures none { IfNone result ((stimuli : List ℕ) (n : ℕ) → IsStimuliWith stimuli n (texts words.now) → ⊥) }
 {
-    if !is_run(name, file, program, stimuli) {
+    let (stimuli, last) = words.split_first()?;
+    if !is_stimuli_file(stimuli.as_str()) {
         return None;
     }
-    match steps_of(option, number) {
-        Some(steps) => Some(Command::Run(file, program, stimuli, steps)),
-        None => None,
+    let steps = steps_given(last)?;
+    Some((stimuli.as_str(), steps))
+}
+
+/// The number of statements that the last words give.
+fn steps_given(last: &[String]) -> Option<u32>
+    ensures found { IfSome result (λ n. GivesSteps n (texts last.now)) }
+    ensures none { IfNone result ((n : ℕ) → GivesSteps n (texts last.now) → ⊥) }
+{
+    match last.split_first() {
+        None => Some(DEFAULT_STEPS),
+        Some((option, rest)) => {
+            let (number, more) = rest.split_first()?;
+            if more.is_empty() {
+                steps_of(option.as_str(), number.as_str())
+            } else {
+                None
+            }
+        }
     }
 }
 
-/// The words before the statements of `sim`.
-fn is_simulation(name: &str, file: &str, stimuli: &str) -> bool
-    ensures { IsTrue result ↔ ((name.now ≡ codes "sim") × IsModelFile file.now × IsStimuliFile stimuli.now) }
+/// Whether these files, each of which is a model file, are the model files of a command.
+fn are_model_files(files: &[String]) -> bool
+    requires { AllByRecursion IsModelFile (texts files.now) }
+    ensures { IsTrue result ↔ AreModelFiles (texts files.now) }
 {
-    is_word(name, b"sim") && is_model_file(file) && is_stimuli_file(stimuli)
+    files.len() <= MOST_FILES && are_different(files) && has_sdl_file(files) && can_be_taken(files)
 }
 
-/// The words before the statements of `run`.
-fn is_run(name: &str, file: &str, program: &str, stimuli: &str) -> bool
-    ensures { IsTrue result ↔ ((name.now ≡ codes "run") × IsModelFile file.now × IsProgramFile program.now × IsStimuliFile stimuli.now) }
+/// Whether the files are such as can be read so far.
+fn can_be_taken(files: &[String]) -> bool
+    ensures { IsTrue result ↔ CanBeTaken (texts files.now) }
 {
-    is_word(name, b"run")
-        && is_model_file(file)
-        && is_program_file(program)
-        && is_stimuli_file(stimuli)
+    files.len() == 1
+}
+
+/// Whether no word stands twice.
+fn are_different(words: &[String]) -> bool
+    ensures { IsTrue result ↔ AreDifferent (texts words.now) }
+{
+    let mut rest = words;
+    while let Some((word, others)) = rest.split_first() {
+        if !differs_from(word.as_str(), others) {
+            return false;
+        }
+        rest = others;
+    }
+    true
+}
+
+/// Whether the word is none of these.
+fn differs_from(word: &str, words: &[String]) -> bool
+    ensures { IsTrue result ↔ AllByRecursion (λ other. other ≢ word.now) (texts words.now) }
+{
+    for other in words {
+        if is_word(other.as_str(), word.as_bytes()) {
+            return false;
+        }
+    }
+    true
+}
+
+/// Whether one of the files is one of SDL/PR.
+fn has_sdl_file(files: &[String]) -> bool
+    ensures { IsTrue result ↔ HasSdlFile (texts files.now) }
+{
+    for file in files {
+        if is_sdl_file(file.as_str()) {
+            return true;
+        }
+    }
+    false
 }
 
 /// The number of `--steps N`.
@@ -209,7 +257,19 @@ fn is_word(word: &str, wanted: &[u8]) -> bool
 fn is_model_file(name: &str) -> bool
     ensures { IsTrue result ↔ IsModelFile name.now }
 {
+    is_sdl_file(name) || is_asn_file(name)
+}
+
+fn is_sdl_file(name: &str) -> bool
+    ensures { IsTrue result ↔ IsSdlFile name.now }
+{
     has_ending(name, b".pr")
+}
+
+fn is_asn_file(name: &str) -> bool
+    ensures { IsTrue result ↔ IsAsnFile name.now }
+{
+    has_ending(name, b".asn") || has_ending(name, b".asn1")
 }
 
 fn is_program_file(name: &str) -> bool

@@ -16,7 +16,8 @@ pub use og_front::{
     trees_are_written,
 };
 pub use output_laws::{
-    agreeing_is_never_stuck, enough_is_enough, one_command, one_output, one_simulation,
+    agreeing_is_never_stuck, enough_is_enough, one_command, one_judgement, one_output,
+    one_simulation,
 };
 pub use run::run_tool;
 pub use status::Status;

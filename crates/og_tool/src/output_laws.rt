@@ -1,6 +1,7 @@
 //! Laws of what a command calls for, each as the contract of a function that does nothing.
-ghost use Rattle.std.specs.Prelude.{◌≡◌, ◌≢◌, ◌≤◌, ℕ, List, Some, false};
+ghost use Rattle.std.specs.Prelude.{◌≡◌, ◌≢◌, ◌⊎◌, ◌<◌, ◌≤◌, ℕ, List, [], ◌∷◌, length, Some, false};
 ghost use Rattle.og_base.specs.Store.{Files};
+ghost use Rattle.og_base.specs.declared.Violation.{Violation};
 ghost use Rattle.og_csubset.specs.Agreement.{SameBehaviour, enough};
 ghost use Rattle.og_csubset.specs.declared.CProgram.{CProgram};
 ghost use Rattle.og_model.specs.Forms.{UsesBasicStatesOnly};
@@ -8,29 +9,32 @@ ghost use Rattle.og_model.specs.declared.Model.{Model};
 ghost use Rattle.og_model.specs.Run.{sdl};
 ghost use Rattle.og_model.specs.Shown.{has_past};
 ghost use Rattle.og_tool.specs.declared.status.Status.{Status};
+ghost use Rattle.og_tool.specs.Judging.{SourceFile, AreAccepted, IsFirstViolation, HaveModel};
 ghost use Rattle.og_tool.specs.Answers.{IsOutputFor, IsReport, IsTooLargeFor};
 ghost use Rattle.og_trace.specs.Stims.{stims_of, given};
 ghost use Rattle.og_trace.specs.Traces.{run_outcome};
 ghost use Rattle.og_trace.specs.declared.Outcome.TheVariants as outcome;
-ghost use Rattle.og_tool.specs.Words.{Command, Compile, Run, Simulate, AsksFor};
+ghost use Rattle.og_tool.specs.Words.{Command, Check, Compile, Run, Simulate, AsksFor};
 
 use og_csubset::{
     agreeing_programs_show_the_same, more_statements_go_on, one_answer, one_deep_place,
     one_program, one_wrong_place,
 };
-use og_front::models_are_well_formed;
+use og_front::{models_are_well_formed, one_answer as one_file_answer};
 use og_lexer::one_reading;
 
-/// Over a store that tells its files, a run calls for one text with one status, and the C of a model for one status; a simulation
-/// calls for the line of a violation where there is one. Nothing is called for where a file has too many bytes.
+/// Over a store that tells its files, a check and a run call for one text with one status, and the C of a model for one status; a
+/// simulation calls for the line of a violation where there is one. Nothing is called for where a file has too many bytes.
 pub fn one_output()
-    ensures run { (files : Files) (file program stimuli : List ℕ) (steps : ℕ) (status other : Status) (text more : List ℕ) →
-        IsOutputFor (Some files) (Run file program stimuli steps) status text → IsOutputFor (Some files) (Run file program stimuli steps) other more →
+    ensures run { (files : Files) (names : List (List ℕ)) (program stimuli : List ℕ) (steps : ℕ) (status other : Status) (text more : List ℕ) →
+        IsOutputFor (Some files) (Run names program stimuli steps) status text → IsOutputFor (Some files) (Run names program stimuli steps) other more →
         (status ≡ other) × (text ≡ more) }
-    ensures compile { (files : Files) (file : List ℕ) (status other : Status) (text more : List ℕ) →
-        IsOutputFor (Some files) (Compile file) status text → IsOutputFor (Some files) (Compile file) other more → status ≡ other }
-    ensures refusal { (files : Files) (file stimuli : List ℕ) (steps : ℕ) (status : Status) (text line : List ℕ) →
-        IsReport (Some files) file Status.Refused line → IsOutputFor (Some files) (Simulate file stimuli steps) status text →
+    ensures check { (files : Files) (names : List (List ℕ)) (status other : Status) (text more : List ℕ) →
+        IsOutputFor (Some files) (Check names) status text → IsOutputFor (Some files) (Check names) other more → (status ≡ other) × (text ≡ more) }
+    ensures compile { (files : Files) (names : List (List ℕ)) (status other : Status) (text more : List ℕ) →
+        IsOutputFor (Some files) (Compile names) status text → IsOutputFor (Some files) (Compile names) other more → status ≡ other }
+    ensures refusal { (files : Files) (names : List (List ℕ)) (stimuli : List ℕ) (steps : ℕ) (status : Status) (text line : List ℕ) →
+        IsReport (Some files) names Status.Refused line → IsOutputFor (Some files) (Simulate names stimuli steps) status text →
         (status ≡ Status.Refused) × (text ≡ line) }
     ensures too_large { (files : Files) (command : Command) (status : Status) (text : List ℕ) →
         IsOutputFor (Some files) command status text → IsTooLargeFor (Some files) command → ⊥ }
@@ -51,8 +55,8 @@ pub fn agreeing_is_never_stuck()
 /// Over a store that tells its files, two outputs of one simulation of which neither is cut short are one text with one
 /// status, whatever programs that agree with the model they come from.
 pub fn one_simulation()
-    ensures { (files : Files) (file stimuli : List ℕ) (steps : ℕ) (status other : Status) (text more : List ℕ) →
-        IsOutputFor (Some files) (Simulate file stimuli steps) status text → IsOutputFor (Some files) (Simulate file stimuli steps) other more →
+    ensures { (files : Files) (names : List (List ℕ)) (stimuli : List ℕ) (steps : ℕ) (status other : Status) (text more : List ℕ) →
+        IsOutputFor (Some files) (Simulate names stimuli steps) status text → IsOutputFor (Some files) (Simulate names stimuli steps) other more →
         status ≢ Status.Past → other ≢ Status.Past → (status ≡ other) × (text ≡ more) }
 {
     one_reading();
@@ -73,6 +77,19 @@ pub fn enough_is_enough()
         run_outcome model program text steps ≢ outcome.Past }
 {
     more_statements_go_on();
+}
+
+/// A single model file is accepted or has a first violation. Any model files have one first violation at most, and none where they
+/// are accepted; it stands in one of them. They have one model at most.
+pub fn one_judgement()
+    ensures each { (file : SourceFile) → AreAccepted (file ∷ []) ⊎ ((v : Violation) × IsFirstViolation (file ∷ []) v) }
+    ensures apart { (files : List SourceFile) (v : Violation) → AreAccepted files → IsFirstViolation files v → ⊥ }
+    ensures one { (files : List SourceFile) (v w : Violation) → IsFirstViolation files v → IsFirstViolation files w → v ≡ w }
+    ensures among { (files : List SourceFile) (v : Violation) → IsFirstViolation files v → v.place.file < length files }
+    ensures model { (files : List SourceFile) (model other : Model) → HaveModel files model → HaveModel files other → model ≡ other }
+{
+    one_reading();
+    one_file_answer();
 }
 
 /// Words ask for at most one command.

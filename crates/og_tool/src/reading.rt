@@ -1,11 +1,11 @@
 //! Model files that are read, checked and built.
-ghost use Rattle.std.specs.Prelude.{◌≡◌, ℕ, ◌≤◌, ◌∷◌, ◌<◌, List, None, length, IfOk, IfErr, OnOk, IsErrOf};
+ghost use Rattle.std.specs.Prelude.{◌≡◌, ℕ, ◌≤◌, [], ◌∷◌, ◌++◌, ◌<◌, List, None, length, IfOk, IfErr, OnOk, IsErrOf};
 ghost use Rattle.og_base.specs.declared.Rule.TheVariants as rule;
-ghost use Rattle.og_base.specs.Store.{Rose, HoldsMore};
 ghost use Rattle.og_lexer.specs.declared.Spanned.{Spanned};
-ghost use Rattle.og_tool.specs.Answering.{IsBuilt, IsBuiltFrom, TellsModel, IsFirst, IsFirstOfRules, IsRefusal};
-ghost use Rattle.og_tool.specs.Answers.{limit};
-ghost use Rattle.og_front.specs.Files.{report_line as line_of};
+ghost use Rattle.og_tool.specs.Answering.{IsBuilt, IsBuiltFrom, TellsModel, IsFirst, IsFirstOfRules, IsRefusalOf, AreContents, seen};
+ghost use Rattle.og_tool.specs.Answers.{limit, FailedAmong, IsLargeAmong};
+ghost use Rattle.og_tool.specs.Asked.{texts};
+ghost use Rattle.og_tool.specs.Words.{CanBeTaken};
 ghost use Rattle.og_front.specs.Names.{HasShortNames};
 ghost use Rattle.og_front.specs.Written.{IsWrittenTree};
 
@@ -20,33 +20,63 @@ use std::alloc::Global;
 /// The most bytes that a file may have.
 pub const LIMIT: u64 = 67108864;
 
-/// The model of a file, or the line that names its first violation.
+/// The model of accepted files, or the line that names their first violation.
 #[derive(Drop)]
-pub enum ModelFile {
+pub enum Judgement {
     Accepted(Model),
     Refused(Vec<u8>),
 }
 
-/// Reads the model file of this name.
+/// Reads the model files of these names, in their order, and then judges them.
 pub fn read_model<S: Store>(
     alloc: Global,
     store: &mut S,
-    file: &str,
-) -> Result<ModelFile, ReadError>
-    ensures read { IfOk result (TellsModel (S.holds store.old) file.now) }
-    ensures fault { IsErrOf result ReadError.Fault → Rose (S.faults store.old file.now) (S.faults store.new file.now) }
-    ensures too_large { IsErrOf result ReadError.TooLarge → HoldsMore (S.holds store.old) file.now limit }
+    files: &[String],
+) -> Result<Judgement, ReadError>
+    requires { CanBeTaken (texts files.now) }
+    ensures read { IfOk result (TellsModel (S.holds store.old) (texts files.now)) }
+    ensures fault { IsErrOf result ReadError.Fault → FailedAmong (S.holds store.old) (texts files.now) (S.faults store.old) (S.faults store.new) }
+    ensures too_large { IsErrOf result ReadError.TooLarge → IsLargeAmong (S.holds store.old) (texts files.now) }
     ensures store_counts { (other : List ℕ) → S.faults store.old other ≤ S.faults store.new other }
     ensures kept { S.holds store.new ≡ S.holds store.old }
 {
-    let bytes = read_all(alloc, store, file, LIMIT)?;
-    match model_of_bytes(alloc, &bytes) {
-        Ok(model) => Ok(ModelFile::Accepted(model)),
+    let contents = read_files(alloc, store, files)?;
+    match model_of_bytes(alloc, contents[0].as_slice()) {
+        Ok(model) => Ok(Judgement::Accepted(model)),
         Err(error) => {
             let violation = violation_of(error)?;
-            Ok(refused(alloc, file.as_bytes(), violation)?)
+            Ok(refused(alloc, files, violation)?)
         }
     }
+}
+
+/// Reads the files of these names whole, in their order.
+fn read_files<S: Store>(
+    alloc: Global,
+    store: &mut S,
+    names: &[String],
+) -> Result<Vec<Vec<u8>>, ReadError>
+    ensures read { IfOk result (λ contents. AreContents (S.holds store.old) (texts names.now) (seen contents.items)) }
+    ensures many { IfOk result (λ contents. length contents.items ≡ length names.now) }
+    ensures fault { IsErrOf result ReadError.Fault → FailedAmong (S.holds store.old) (texts names.now) (S.faults store.old) (S.faults store.new) }
+    ensures too_large { IsErrOf result ReadError.TooLarge → IsLargeAmong (S.holds store.old) (texts names.now) }
+    ensures store_counts { (other : List ℕ) → S.faults store.old other ≤ S.faults store.new other }
+    ensures kept { S.holds store.new ≡ S.holds store.old }
+{
+    let mut contents = Vec::new(alloc);
+    for name in names {
+        let bytes = read_all(alloc, store, name.as_str(), LIMIT)?;
+        keep(&mut contents, bytes)?;
+    }
+    Ok(contents)
+}
+
+/// Puts the bytes of a file behind those of the files before it.
+fn keep(contents: &mut Vec<Vec<u8>>, bytes: Vec<u8>) -> Result<(), NoMemory>
+    ensures { OnOk result (contents.new.items ≡ contents.old.items ++ bytes ∷ []) }
+{
+    contents.push(bytes)?;
+    Ok(())
 }
 
 /// The violation of a file, or that memory could not be had.
@@ -60,11 +90,13 @@ fn violation_of(error: ModelError) -> Result<Violation, NoMemory>
     }
 }
 
-/// The line that names the violation.
-fn refused(alloc: Global, file: &[u8], violation: Violation) -> Result<ModelFile, NoMemory>
-    ensures { IfOk result (IsRefusal (line_of file.now violation)) }
+/// The line that names the violation, and the file in which it is.
+fn refused(alloc: Global, files: &[String], violation: Violation) -> Result<Judgement, NoMemory>
+    requires { violation.place.file < length files.now }
+    ensures { IfOk result (IsRefusalOf (texts files.now) violation) }
 {
-    Ok(ModelFile::Refused(report_line(alloc, file, violation)?))
+    let name = files[violation.place.file as usize].as_str();
+    Ok(Judgement::Refused(report_line(alloc, name.as_bytes(), violation)?))
 }
 
 /// The model of an accepted file, or its first violation.

@@ -1,12 +1,15 @@
-//! The lines that name a violation in a model file, and what is wrong with a program's file.
+//! The lines that say that model files are accepted, that name a violation in one, and what is wrong with a program's file.
 ghost use Rattle.std.specs.Prelude.{◌≡◌, ◌++◌, ◌∷◌, [], IfOk, OnOk, codes, decimal};
 ghost use Rattle.og_front.specs.Files.{report_line as line_of, rule_text as text_of};
+ghost use Rattle.og_stim.specs.Trace.{name_of};
+ghost use Rattle.og_tool.specs.Answers.{accepted_line as accepted_line_of};
 ghost use Rattle.og_tool.specs.Programs.{bad_program_line as bad_line_of, load_rule_text as load_text_of, placed_line as placed_line_of};
 
 use crate::program::BadProgram;
 use itoa::Buffer;
 use og_base::{Place, Rule, Violation};
 use og_cstep::LoadRule;
+use og_model::Model;
 use og_names::NoMemory;
 use std::alloc::Global;
 
@@ -22,6 +25,18 @@ pub fn report_line(alloc: Global, file: &[u8], violation: Violation) -> Result<V
     put_number(&mut line, violation.place.line)?;
     line.extend_from_slice(b":")?;
     put_number(&mut line, violation.place.column)?;
+    line.extend_from_slice(b"\n")?;
+    Ok(line)
+}
+
+/// `accepted NAME` and a line end, with the name of the model's process.
+pub fn accepted_line(alloc: Global, model: &Model) -> Result<Vec<u8>, NoMemory>
+    ensures { IfOk result (λ line. line.items ≡ accepted_line_of (name_of model.now model.now.name)) }
+{
+    let mut line = Vec::from_slice(alloc, b"accepted ")?;
+    if let Some(name) = model.names.text(model.name) {
+        line.extend_from_slice(name)?;
+    }
     line.extend_from_slice(b"\n")?;
     Ok(line)
 }

@@ -3,20 +3,22 @@ ghost use Rattle.std.specs.Prelude.{◌≡◌, ◌≤◌, ◌↔◌, ℕ, List, 
 ghost use Rattle.og_base.specs.Store.{Rose};
 ghost use Rattle.og_tool.specs.Answering.{CommandAnswer, unread_status};
 ghost use Rattle.og_tool.specs.Answers.{IsOutputFor, FailedFor, IsTooLargeFor, Wrote, WroteSome, FailedToRead, IsTooLarge};
-ghost use Rattle.og_tool.specs.Asked.{asked};
-ghost use Rattle.og_tool.specs.Words.{Compile, IsNoCommand, AskForRun};
+ghost use Rattle.og_tool.specs.Asked.{texts, asked};
+ghost use Rattle.og_tool.specs.Words.{Check, Compile, CanBeTaken, files_of, IsNoCommand, AskForRun};
 
 use crate::command::{Command, command_of};
 use crate::compile::compile;
-use crate::reading::{ModelFile, read_model};
+use crate::reading::{Judgement, read_model};
+use crate::report::accepted_line;
 use crate::running::{Output, run_program, simulate};
 use crate::status::Status;
 use og_base::{ReadError, Sink, Store, write_all};
 use std::alloc::Global;
 
-/// Carries out the command that the words ask for. `cc FILE` writes the C text of the model in the file. `run FILE CFILE STIM`
-/// runs the program in CFILE over the model and the stimuli in STIM, and writes its trace. `sim FILE STIM` does the same with
-/// the C of the model. Where a file violates a rule, the line that names the rule is written instead, or last.
+/// Carries out the command that the words ask for. `check FILES` writes that the model files are accepted. `cc FILES` writes the C
+/// text of their model. `run FILES CFILE STIM` runs the program in CFILE over the model and the stimuli in STIM, and writes its
+/// trace. `sim FILES STIM` does the same with the C of the model. Where a file violates a rule, the line that names the rule is
+/// written instead, or last.
 pub fn run_tool<S: Store, K: Sink>(
     alloc: Global,
     words: &Vec<String>,
@@ -38,8 +40,8 @@ pub fn run_tool<S: Store, K: Sink>(
     // The C of a model is never stuck: only the words of `run` can give this status.
     ensures never_stuck { result ≡ Status.Stuck → AskForRun (map string_bytes words.now.items) }
 
-    // Reading a file of the words failed, or one has too many bytes, and nothing is written. Of the files before it, as far
-    // as the store tells what they hold, the model is accepted and the program can be run.
+    // Reading a file of the words failed, or one has too many bytes, and nothing is written. The files before it were read, and
+    // as far as the store tells what they hold, the model is accepted and the program can be run.
     ensures read_fault { result ≡ Status.ReadFault → FailedToRead (map string_bytes words.now.items) (S.holds store.old) (S.faults store.old) (S.faults store.new) }
     ensures read_fault_writes_nothing { result ≡ Status.ReadFault → K.written out.new ≡ K.written out.old }
     ensures too_large { result ≡ Status.TooLarge → IsTooLarge (map string_bytes words.now.items) (S.holds store.old) }
@@ -70,6 +72,7 @@ fn carry_out<S: Store, K: Sink>(
     store: &mut S,
     out: &mut K,
 ) -> Status
+    requires { CanBeTaken (files_of (asked command)) }
     ensures answer { CommandAnswer result (S.holds store.old) (asked command.entry) (S.faults store.old) (S.faults store.new) (K.written out.old) (K.written out.new) (K.faults out.old) (K.faults out.new) }
     ensures kept { S.holds store.new ≡ S.holds store.old }
     ensures store_counts { (other : List ℕ) → S.faults store.old other ≤ S.faults store.new other }
@@ -101,6 +104,7 @@ fn output_of<S: Store>(
     command: Command<'_>,
     store: &mut S,
 ) -> Result<Output, ReadError>
+    requires { CanBeTaken (files_of (asked command)) }
     ensures output { IfOk result (λ output. IsOutputFor (S.holds store.old) (asked command.entry) output.status output.text.items) }
     ensures fault { IsErrOf result ReadError.Fault → FailedFor (S.holds store.old) (asked command.entry) (S.faults store.old) (S.faults store.new) }
     ensures too_large { IsErrOf result ReadError.TooLarge → IsTooLargeFor (S.holds store.old) (asked command.entry) }
@@ -108,28 +112,62 @@ fn output_of<S: Store>(
     ensures kept { S.holds store.new ≡ S.holds store.old }
 {
     match command {
-        Command::Compile(file) => compile_file(alloc, store, file),
-        Command::Run(file, program, stimuli, steps) => {
-            run_program(alloc, store, file, program, stimuli, steps)
+        Command::Check(files) => check_files(alloc, store, files),
+        Command::Compile(files) => compile_files(alloc, store, files),
+        Command::Run(files, program, stimuli, steps) => {
+            run_program(alloc, store, files, program, stimuli, steps)
         }
-        Command::Simulate(file, stimuli, steps) => simulate(alloc, store, file, stimuli, steps),
+        Command::Simulate(files, stimuli, steps) => simulate(alloc, store, files, stimuli, steps),
     }
 }
 
-/// `cc`: the C of the model in the file.
-fn compile_file<S: Store>(alloc: Global, store: &mut S, file: &str) -> Result<Output, ReadError>
-    ensures output { IfOk result (λ output. IsOutputFor (S.holds store.old) (Compile file.now) output.status output.text.items) }
-    ensures fault { IsErrOf result ReadError.Fault → FailedFor (S.holds store.old) (Compile file.now) (S.faults store.old) (S.faults store.new) }
-    ensures too_large { IsErrOf result ReadError.TooLarge → IsTooLargeFor (S.holds store.old) (Compile file.now) }
+/// `check`: that the model files are accepted.
+fn check_files<S: Store>(
+    alloc: Global,
+    store: &mut S,
+    files: &[String],
+) -> Result<Output, ReadError>
+    requires { CanBeTaken (texts files.now) }
+    ensures output { IfOk result (λ output. IsOutputFor (S.holds store.old) (Check (texts files.now)) output.status output.text.items) }
+    ensures fault { IsErrOf result ReadError.Fault → FailedFor (S.holds store.old) (Check (texts files.now)) (S.faults store.old) (S.faults store.new) }
+    ensures too_large { IsErrOf result ReadError.TooLarge → IsTooLargeFor (S.holds store.old) (Check (texts files.now)) }
     ensures store_counts { (other : List ℕ) → S.faults store.old other ≤ S.faults store.new other }
     ensures kept { S.holds store.new ≡ S.holds store.old }
 {
-    match read_model(alloc, store, file)? {
-        ModelFile::Refused(text) => Ok(Output {
+    match read_model(alloc, store, files)? {
+        Judgement::Refused(text) => Ok(Output {
             status: Status::Refused,
             text,
         }),
-        ModelFile::Accepted(model) => {
+        Judgement::Accepted(model) => {
+            let text = accepted_line(alloc, &model)?;
+            Ok(Output {
+                status: Status::Done,
+                text,
+            })
+        }
+    }
+}
+
+/// `cc`: the C of the model of the files.
+fn compile_files<S: Store>(
+    alloc: Global,
+    store: &mut S,
+    files: &[String],
+) -> Result<Output, ReadError>
+    requires { CanBeTaken (texts files.now) }
+    ensures output { IfOk result (λ output. IsOutputFor (S.holds store.old) (Compile (texts files.now)) output.status output.text.items) }
+    ensures fault { IsErrOf result ReadError.Fault → FailedFor (S.holds store.old) (Compile (texts files.now)) (S.faults store.old) (S.faults store.new) }
+    ensures too_large { IsErrOf result ReadError.TooLarge → IsTooLargeFor (S.holds store.old) (Compile (texts files.now)) }
+    ensures store_counts { (other : List ℕ) → S.faults store.old other ≤ S.faults store.new other }
+    ensures kept { S.holds store.new ≡ S.holds store.old }
+{
+    match read_model(alloc, store, files)? {
+        Judgement::Refused(text) => Ok(Output {
+            status: Status::Refused,
+            text,
+        }),
+        Judgement::Accepted(model) => {
             let text = compile(alloc, &model)?;
             Ok(Output {
                 status: Status::Done,

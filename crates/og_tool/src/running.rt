@@ -1,24 +1,26 @@
 //! Runs of programs over models and files of stimuli.
-ghost use Rattle.std.specs.Prelude.{◌≡◌, ℕ, ◌≤◌, List, length, IfOk, IsErrOf};
+ghost use Rattle.std.specs.Prelude.{◌≡◌, ℕ, ◌≤◌, List, map, length, IfOk, IsErrOf};
 ghost use Rattle.og_base.specs.Store.{HoldsMore};
 ghost use Rattle.og_cstep.specs.Machines.{run_of};
 ghost use Rattle.og_trace.specs.Traces.{run_text, run_outcome};
 ghost use Rattle.og_tool.specs.Answering.{IsReady};
-ghost use Rattle.og_tool.specs.Answers.{limit, IsTrace, IsOutputFor, FailedFor, IsTooLargeFor, RoseAt, status_of as status_for};
+ghost use Rattle.og_tool.specs.Asked.{texts};
+ghost use Rattle.og_tool.specs.Answers.{limit, as_word, IsTrace, IsOutputFor, FailedFor, IsTooLargeFor, RoseAt, status_of as status_for};
 ghost use Rattle.og_tool.specs.Loading.{Runs};
 ghost use Rattle.og_tool.specs.Programs.{bad_program_line as line_of};
 ghost use Rattle.og_tool.specs.Ready.{CanRun};
-ghost use Rattle.og_tool.specs.Words.{Run, Simulate};
+ghost use Rattle.og_tool.specs.Words.{Run, Simulate, CanBeTaken};
 
 use crate::compile::compile;
 use crate::program::{BadProgram, Loaded, load_compiled, load_text, reason_of};
-use crate::reading::{LIMIT, ModelFile, read_model};
+use crate::reading::{Judgement, LIMIT, read_model};
 use crate::report::bad_program_line;
 use crate::status::Status;
 use og_base::{ReadError, Store, read_all};
 use og_model::Model;
-use og_names::NoMemory;
+use og_names::{NoMemory, Word};
 use og_trace::{Outcome, trace};
+use sqlite_items::Items;
 use std::alloc::Global;
 
 /// What a command calls for, with the status under which it is written.
@@ -28,28 +30,29 @@ pub struct Output {
     pub text: Vec<u8>,
 }
 
-/// `run`: the model file, the program's file and the stimuli are read whole, and the program runs over them.
+/// `run`: the model files, the program's file and the stimuli are read whole, and the program runs over them.
 pub fn run_program<S: Store>(
     alloc: Global,
     store: &mut S,
-    file: &str,
+    files: &[String],
     program: &str,
     stimuli: &str,
     steps: u32,
 ) -> Result<Output, ReadError>
-    ensures output { IfOk result (λ output. IsOutputFor (S.holds store.old) (Run file.now program.now stimuli.now steps) output.status output.text.items) }
-    ensures fault { IsErrOf result ReadError.Fault → FailedFor (S.holds store.old) (Run file.now program.now stimuli.now steps) (S.faults store.old) (S.faults store.new) }
-    ensures too_large { IsErrOf result ReadError.TooLarge → IsTooLargeFor (S.holds store.old) (Run file.now program.now stimuli.now steps) }
+    requires { CanBeTaken (texts files.now) }
+    ensures output { IfOk result (λ output. IsOutputFor (S.holds store.old) (Run (texts files.now) program.now stimuli.now steps) output.status output.text.items) }
+    ensures fault { IsErrOf result ReadError.Fault → FailedFor (S.holds store.old) (Run (texts files.now) program.now stimuli.now steps) (S.faults store.old) (S.faults store.new) }
+    ensures too_large { IsErrOf result ReadError.TooLarge → IsTooLargeFor (S.holds store.old) (Run (texts files.now) program.now stimuli.now steps) }
     ensures store_counts { (other : List ℕ) → S.faults store.old other ≤ S.faults store.new other }
     ensures kept { S.holds store.new ≡ S.holds store.old }
 {
-    match read_model(alloc, store, file)? {
-        ModelFile::Refused(text) => Ok(Output {
+    match read_model(alloc, store, files)? {
+        Judgement::Refused(text) => Ok(Output {
             status: Status::Refused,
             text,
         }),
-        ModelFile::Accepted(model) => {
-            run_over_model(alloc, store, &model, file, program, stimuli, steps)
+        Judgement::Accepted(model) => {
+            run_over_model(alloc, store, &model, files, program, stimuli, steps)
         }
     }
 }
@@ -59,21 +62,21 @@ fn run_over_model<S: Store>(
     alloc: Global,
     store: &mut S,
     model: &Model,
-    file: &str,
+    files: &[String],
     program: &str,
     stimuli: &str,
     steps: u32,
 ) -> Result<Output, ReadError>
-    requires { IsReady (S.holds store.old) file.now model.now }
-    ensures output { IfOk result (λ output. IsOutputFor (S.holds store.old) (Run file.now program.now stimuli.now steps) output.status output.text.items) }
-    ensures fault { IsErrOf result ReadError.Fault → FailedFor (S.holds store.old) (Run file.now program.now stimuli.now steps) (S.faults store.old) (S.faults store.new) }
-    ensures too_large { IsErrOf result ReadError.TooLarge → IsTooLargeFor (S.holds store.old) (Run file.now program.now stimuli.now steps) }
+    requires { IsReady (S.holds store.old) (texts files.now) model.now }
+    ensures output { IfOk result (λ output. IsOutputFor (S.holds store.old) (Run (texts files.now) program.now stimuli.now steps) output.status output.text.items) }
+    ensures fault { IsErrOf result ReadError.Fault → FailedFor (S.holds store.old) (Run (texts files.now) program.now stimuli.now steps) (S.faults store.old) (S.faults store.new) }
+    ensures too_large { IsErrOf result ReadError.TooLarge → IsTooLargeFor (S.holds store.old) (Run (texts files.now) program.now stimuli.now steps) }
     ensures store_counts { (other : List ℕ) → S.faults store.old other ≤ S.faults store.new other }
     ensures kept { S.holds store.new ≡ S.holds store.old }
 {
     let bytes = read_all(alloc, store, program, LIMIT)?;
     match load_text(alloc, &bytes, model) {
-        Ok(loaded) => run_loaded(alloc, store, loaded, model, file, stimuli, steps),
+        Ok(loaded) => run_loaded(alloc, store, loaded, model, files, stimuli, steps),
         Err(error) => {
             let bad = reason_of(error)?;
             let output = bad_program(alloc, program.as_bytes(), bad)?;
@@ -94,26 +97,29 @@ fn bad_program(alloc: Global, file: &[u8], bad: BadProgram) -> Result<Output, No
     })
 }
 
-/// `sim`: the model file is read and compiled, and the program of its C runs over the stimuli, which are read whole.
+/// `sim`: the model files are read and compiled, and the program of its C runs over the stimuli, which are read whole.
 pub fn simulate<S: Store>(
     alloc: Global,
     store: &mut S,
-    file: &str,
+    files: &[String],
     stimuli: &str,
     steps: u32,
 ) -> Result<Output, ReadError>
-    ensures output { IfOk result (λ output. IsOutputFor (S.holds store.old) (Simulate file.now stimuli.now steps) output.status output.text.items) }
-    ensures fault { IsErrOf result ReadError.Fault → FailedFor (S.holds store.old) (Simulate file.now stimuli.now steps) (S.faults store.old) (S.faults store.new) }
-    ensures too_large { IsErrOf result ReadError.TooLarge → IsTooLargeFor (S.holds store.old) (Simulate file.now stimuli.now steps) }
+    requires { CanBeTaken (texts files.now) }
+    ensures output { IfOk result (λ output. IsOutputFor (S.holds store.old) (Simulate (texts files.now) stimuli.now steps) output.status output.text.items) }
+    ensures fault { IsErrOf result ReadError.Fault → FailedFor (S.holds store.old) (Simulate (texts files.now) stimuli.now steps) (S.faults store.old) (S.faults store.new) }
+    ensures too_large { IsErrOf result ReadError.TooLarge → IsTooLargeFor (S.holds store.old) (Simulate (texts files.now) stimuli.now steps) }
     ensures store_counts { (other : List ℕ) → S.faults store.old other ≤ S.faults store.new other }
     ensures kept { S.holds store.new ≡ S.holds store.old }
 {
-    match read_model(alloc, store, file)? {
-        ModelFile::Refused(text) => Ok(Output {
+    match read_model(alloc, store, files)? {
+        Judgement::Refused(text) => Ok(Output {
             status: Status::Refused,
             text,
         }),
-        ModelFile::Accepted(model) => { simulate_model(alloc, store, &model, file, stimuli, steps) }
+        Judgement::Accepted(model) => {
+            simulate_model(alloc, store, &model, files, stimuli, steps)
+        }
     }
 }
 
@@ -122,20 +128,20 @@ fn simulate_model<S: Store>(
     alloc: Global,
     store: &mut S,
     model: &Model,
-    file: &str,
+    files: &[String],
     stimuli: &str,
     steps: u32,
 ) -> Result<Output, ReadError>
-    requires { IsReady (S.holds store.old) file.now model.now }
-    ensures output { IfOk result (λ output. IsOutputFor (S.holds store.old) (Simulate file.now stimuli.now steps) output.status output.text.items) }
-    ensures fault { IsErrOf result ReadError.Fault → FailedFor (S.holds store.old) (Simulate file.now stimuli.now steps) (S.faults store.old) (S.faults store.new) }
-    ensures too_large { IsErrOf result ReadError.TooLarge → IsTooLargeFor (S.holds store.old) (Simulate file.now stimuli.now steps) }
+    requires { IsReady (S.holds store.old) (texts files.now) model.now }
+    ensures output { IfOk result (λ output. IsOutputFor (S.holds store.old) (Simulate (texts files.now) stimuli.now steps) output.status output.text.items) }
+    ensures fault { IsErrOf result ReadError.Fault → FailedFor (S.holds store.old) (Simulate (texts files.now) stimuli.now steps) (S.faults store.old) (S.faults store.new) }
+    ensures too_large { IsErrOf result ReadError.TooLarge → IsTooLargeFor (S.holds store.old) (Simulate (texts files.now) stimuli.now steps) }
     ensures store_counts { (other : List ℕ) → S.faults store.old other ≤ S.faults store.new other }
     ensures kept { S.holds store.new ≡ S.holds store.old }
 {
     let text = compile(alloc, model)?;
     let loaded = load_compiled(alloc, &text, model)?;
-    run_loaded(alloc, store, loaded, model, file, stimuli, steps)
+    run_loaded(alloc, store, loaded, model, files, stimuli, steps)
 }
 
 /// Runs a loaded program over a file of stimuli.
@@ -144,13 +150,13 @@ fn run_loaded<S: Store>(
     store: &mut S,
     loaded: Loaded,
     model: &Model,
-    file: &str,
+    files: &[String],
     stimuli: &str,
     steps: u32,
 ) -> Result<Output, ReadError>
     requires can { CanRun model.now }
     requires runs { Runs (run_of loaded.machine).program model.now loaded }
-    ensures output { IfOk result (λ output. IsTrace (S.holds store.old) model.now (run_of loaded.machine).program file.now stimuli.now steps output.status output.text.items) }
+    ensures output { IfOk result (λ output. IsTrace (S.holds store.old) model.now (run_of loaded.machine).program (texts files.now) stimuli.now steps output.status output.text.items) }
     ensures fault { IsErrOf result ReadError.Fault → RoseAt stimuli.now (S.faults store.old) (S.faults store.new) }
     ensures too_large { IsErrOf result ReadError.TooLarge → HoldsMore (S.holds store.old) stimuli.now limit }
     ensures store_counts { (other : List ℕ) → S.faults store.old other ≤ S.faults store.new other }
@@ -161,7 +167,7 @@ fn run_loaded<S: Store>(
         alloc,
         loaded,
         model,
-        file.as_bytes(),
+        files,
         stimuli.as_bytes(),
         &bytes,
         steps,
@@ -176,23 +182,24 @@ fn traced(
     alloc: Global,
     loaded: Loaded,
     model: &Model,
-    file: &[u8],
+    files: &[String],
     name: &[u8],
     bytes: &[u8],
     steps: u32,
 ) -> Result<Output, NoMemory>
     requires can { CanRun model.now }
     requires runs { Runs (run_of loaded.machine).program model.now loaded }
-    ensures text { IfOk result (λ output. output.text.items ≡ run_text model.now (run_of loaded.machine).program file.now name.now bytes.now steps) }
+    ensures text { IfOk result (λ output. output.text.items ≡ run_text model.now (run_of loaded.machine).program (map as_word (texts files.now)) name.now bytes.now steps) }
     ensures status { IfOk result (λ output. output.status ≡ status_for (run_outcome model.now (run_of loaded.machine).program bytes.now steps)) }
 {
     let mut machine = loaded.machine;
+    let words = words_of(alloc, files)?;
     let traced = trace(
         alloc,
         &mut machine,
         model,
         &loaded.regions,
-        file,
+        &words,
         name,
         bytes,
         steps,
@@ -201,6 +208,18 @@ fn traced(
         status: status_of(traced.outcome),
         text: traced.text,
     })
+}
+
+/// The words of files.
+fn words_of(alloc: Global, files: &[String]) -> Result<Vec<Word>, NoMemory>
+    ensures { IfOk result (λ words. words.items ≡ map as_word (texts files.now)) }
+{
+    let mut words = Vec::new(alloc);
+    for file in files {
+        let bytes = Items::from_slice(alloc, file.as_bytes())?;
+        words.push(Word { bytes })?;
+    }
+    Ok(words)
 }
 
 /// The status of a run that has ended so.

@@ -196,19 +196,18 @@ file_outcome P M text steps ids globals bad are first is =
     ∙ ap (outcome_of (at_file_end bad)) (shown_is P M text steps)
     ∙ ap (λ b. outcome_of (at_file_end b) (shown_over_file M P text steps)) is
 
-pub file_lines : (P : CProgram) (M : Model) (file text : Bytes) (files : List Word) (steps : ℕ) (ids : List StimId) (globals : List Cells)
-    → files ≡ record { bytes = file } ∷ [] → ids ≡ Start ∷ (stims_of M text).list → globals ≡ first_globals P
-    → lines_for P M files steps ids globals ≡ trace_of M (record { bytes = file } ∷ []) (Start ∷ (stims_of M text).list) (shown_over_file M P text steps)
-file_lines P M file text files steps ids globals words are first =
-    ap (λ ws. lines_for P M ws steps ids globals) words
-    ∙ ap (λ xs. lines_for P M (record { bytes = file } ∷ []) steps xs globals) are
-    ∙ ap (λ g. lines_for P M (record { bytes = file } ∷ []) steps (Start ∷ (stims_of M text).list) g) first
-    ∙ ap (trace_of M (record { bytes = file } ∷ []) (Start ∷ (stims_of M text).list)) (shown_is P M text steps)
+pub file_lines : (P : CProgram) (M : Model) (text : Bytes) (files : List Word) (steps : ℕ) (ids : List StimId) (globals : List Cells)
+    → ids ≡ Start ∷ (stims_of M text).list → globals ≡ first_globals P
+    → lines_for P M files steps ids globals ≡ trace_of M files (Start ∷ (stims_of M text).list) (shown_over_file M P text steps)
+file_lines P M text files steps ids globals are first =
+    ap (λ xs. lines_for P M files steps xs globals) are
+    ∙ ap (λ g. lines_for P M files steps (Start ∷ (stims_of M text).list) g) first
+    ∙ ap (trace_of M files (Start ∷ (stims_of M text).list)) (shown_is P M text steps)
 
-pub file_text : (P : CProgram) (M : Model) (file name text : Bytes) (files : List Word) (steps : ℕ) (ids : List StimId) (globals : List Cells) (bad : Option BadLine) (ended : Outcome)
-    → files ≡ record { bytes = file } ∷ [] → ids ≡ Start ∷ (stims_of M text).list → globals ≡ first_globals P → bad ≡ (stims_of M text).bad → ended ≡ run_outcome M P text steps
-    → lines_for P M files steps ids globals ++ line_if_bad ended name bad ≡ run_text M P file name text steps
-file_text P M file name text files steps ids globals bad ended words are first is told =
-    ap (λ bytes. bytes ++ line_if_bad ended name bad) (file_lines P M file text files steps ids globals words are first)
-    ∙ ap (λ b. trace_of M (record { bytes = file } ∷ []) (Start ∷ (stims_of M text).list) (shown_over_file M P text steps) ++ line_if_bad ended name b) is
-    ∙ ap (λ o. trace_of M (record { bytes = file } ∷ []) (Start ∷ (stims_of M text).list) (shown_over_file M P text steps) ++ line_if_bad o name (stims_of M text).bad) told
+pub file_text : (P : CProgram) (M : Model) (name text : Bytes) (files : List Word) (steps : ℕ) (ids : List StimId) (globals : List Cells) (bad : Option BadLine) (ended : Outcome)
+    → ids ≡ Start ∷ (stims_of M text).list → globals ≡ first_globals P → bad ≡ (stims_of M text).bad → ended ≡ run_outcome M P text steps
+    → lines_for P M files steps ids globals ++ line_if_bad ended name bad ≡ run_text M P files name text steps
+file_text P M name text files steps ids globals bad ended are first is told =
+    ap (λ bytes. bytes ++ line_if_bad ended name bad) (file_lines P M text files steps ids globals are first)
+    ∙ ap (λ b. trace_of M files (Start ∷ (stims_of M text).list) (shown_over_file M P text steps) ++ line_if_bad ended name b) is
+    ∙ ap (λ o. trace_of M files (Start ∷ (stims_of M text).list) (shown_over_file M P text steps) ++ line_if_bad o name (stims_of M text).bad) told

@@ -16,7 +16,7 @@ text_of (l ∷ ls) = line l ++ text_of ls
 -- a run over stimuli with so many statements writes these lines
 abbrev pub Writes : CProgram → List Bytes → ℕ → List Bytes → Type 0
 Writes P stimuli steps lines =
-    run_text go_done P (codes "m.pr") (codes "run.stim") (text_of stimuli) steps ≡ text_of lines
+    run_text go_done P (record { bytes = codes "m.pr" } ∷ []) (codes "run.stim") (text_of stimuli) steps ≡ text_of lines
 
 abbrev pub Ends : CProgram → List Bytes → ℕ → Outcome → Type 0
 Ends P stimuli steps o = run_outcome go_done P (text_of stimuli) steps ≡ o

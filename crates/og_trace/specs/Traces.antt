@@ -76,8 +76,8 @@ shown_over_file M P text steps = c P M (given (stims_of M text).list) steps
 abbrev pub run_outcome : Model → CProgram → Bytes → ℕ → Outcome
 run_outcome M P text steps = outcome_of (at_file_end (stims_of M text).bad) (shown_over_file M P text steps)
 
--- the model's file and the file of stimuli go by their words
-abbrev pub run_text : Model → CProgram → (file name text : Bytes) → ℕ → Bytes
-run_text M P file name text steps =
-    trace_of M (record { bytes = file } ∷ []) (Start ∷ (stims_of M text).list) (shown_over_file M P text steps)
+-- the model files and the file of stimuli go by their words
+abbrev pub run_text : Model → CProgram → List Word → (name text : Bytes) → ℕ → Bytes
+run_text M P files name text steps =
+    trace_of M files (Start ∷ (stims_of M text).list) (shown_over_file M P text steps)
     ++ line_if_bad (run_outcome M P text steps) name (stims_of M text).bad

@@ -24,7 +24,6 @@ use og_names::{NoMemory, Word};
 use og_regions::Regions;
 use og_stim::StimRule;
 use runs::{Scene, show_stimuli};
-use sqlite_items::Items;
 use std::alloc::Global;
 
 /// How a run over a file of stimuli has ended: at the end of the file, at a bad line that it came to, with its statements used up,
@@ -46,14 +45,14 @@ pub struct Traced {
 }
 
 /// Runs a machine that was just loaded over a file of stimuli, with at most so many statements for the start and for each
-/// stimulus. The regions are those of the model. `file` is the word of the model's file and `name` that of the file of
-/// stimuli.
+/// stimulus. The regions are those of the model. `files` are the words of the model files, by which places count, and `name`
+/// is the word of the file of stimuli.
 pub fn trace(
     alloc: Global,
     machine: &mut Machine,
     model: &Model,
     regions: &Regions,
-    file: &[u8],
+    files: &[Word],
     name: &[u8],
     stimuli: &[u8],
     steps: u32,
@@ -62,15 +61,14 @@ pub fn trace(
     requires regions { regions.now.list ≡ regions_of model.now }
     requires basic { UsesBasicStatesOnly model.now }
     requires few_signals { length model.now.signals ≤ 200 }
-    ensures text { IfOk result (λ traced. traced.text.items ≡ run_text model.now (run_of machine.old).program file.now name.now stimuli.now steps) }
+    ensures text { IfOk result (λ traced. traced.text.items ≡ run_text model.now (run_of machine.old).program files.now name.now stimuli.now steps) }
     ensures outcome { IfOk result (λ traced. traced.outcome ≡ run_outcome model.now (run_of machine.old).program stimuli.now steps) }
 {
     let listed = stimuli_of(alloc, model, stimuli)?;
-    let files = [word(alloc, file)?];
     let scene = Scene {
         model,
         regions,
-        files: files.as_slice(),
+        files,
     };
     let mut text = Vec::new(alloc);
     let ended = show_stimuli(
@@ -84,15 +82,6 @@ pub fn trace(
     let outcome = outcome_at(ended, listed.bad);
     show_bad(outcome, name, listed.bad, &mut text)?;
     Ok(Traced { text, outcome })
-}
-
-/// The word of a file.
-fn word(alloc: Global, bytes: &[u8]) -> Result<Word, NoMemory>
-    ensures { IfOk result (λ word. word.bytes ≡ bytes.now) }
-{
-    Ok(Word {
-        bytes: Items::from_slice(alloc, bytes)?,
-    })
 }
 
 /// How a run over a file has ended: by a stimulus, or behind the last one.

@@ -1,8 +1,21 @@
-use Rattle.og_tool.proofs.OneOutput.{one_run, one_compilation, one_refusal, never_too_large}
+use Rattle.og_tool.proofs.OneOutput.{one_run, one_check, one_compilation, one_refusal, never_too_large}
 use Rattle.og_tool.proofs.output_laws.one_output.Goals as goal
 
 pub returns-clause-run : goal.returns-clause-run
 returns-clause-run c = one_run (record {
+  texts = c.one_reading.ensures.tokens;
+  lexicals = c.one_reading.ensures.violation;
+  apart = c.one_reading.ensures.apart;
+  programs = c.one_program.ensures;
+  not_deep = c.one_answer.ensures.not_spelt_and_deep;
+  not_bad = c.one_answer.ensures.not_spelt_and_bad;
+  not_both = c.one_answer.ensures.not_deep_and_bad;
+  one_deep = c.one_deep_place.ensures.unique;
+  one_wrong = c.one_wrong_place.ensures.unique;
+})
+
+pub returns-clause-check : goal.returns-clause-check
+returns-clause-check c = one_check (record {
   texts = c.one_reading.ensures.tokens;
   lexicals = c.one_reading.ensures.violation;
   apart = c.one_reading.ensures.apart;

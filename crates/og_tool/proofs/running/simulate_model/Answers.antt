@@ -1,4 +1,5 @@
 use Rattle.std.proofs.Common.{List, ℕ, sym, subst, inr}
+use Rattle.og_tool.specs.Asked.{texts}
 use Rattle.og_tool.specs.Compiled.{IsCompiled}
 use Rattle.og_tool.proofs.RunningParts.{simulation_output}
 use Rattle.og_tool.proofs.running.simulate_model.Goals as goal
@@ -10,7 +11,7 @@ load_compiled-requires g c =
 
 pub returns-clause-output : goal.returns-clause-output
 returns-clause-output g c =
-    simulation_output (g.S.Store.holds c.args.store.now) c.args.file.now c.args.stimuli.now c.args.steps c.args.model.now c.in_ok-loaded.loaded c.run_loaded.result
+    simulation_output (g.S.Store.holds c.args.store.now) (texts c.args.files.now) c.args.stimuli.now c.args.steps c.args.model.now c.in_ok-loaded.loaded c.run_loaded.result
     c.requires.has_model c.in_ok-loaded.ensures c.run_loaded.ensures.output
 
 pub returns-clause-too_large : goal.returns-clause-too_large

@@ -1,0 +1,18 @@
+use Rattle.og_tool.proofs.InFiles.{stands_in_a_file}
+use Rattle.og_tool.proofs.Judgements.{each_alone, never_both, one_violation, one_model}
+use Rattle.og_tool.proofs.output_laws.one_judgement.Goals as goal
+
+pub returns-clause-each : goal.returns-clause-each
+returns-clause-each c = each_alone c.one_answer.ensures.each
+
+pub returns-clause-apart : goal.returns-clause-apart
+returns-clause-apart c = never_both (record { texts = c.one_reading.ensures.tokens; lexicals = c.one_reading.ensures.violation; apart = c.one_reading.ensures.apart })
+
+pub returns-clause-one : goal.returns-clause-one
+returns-clause-one c = one_violation (record { texts = c.one_reading.ensures.tokens; lexicals = c.one_reading.ensures.violation; apart = c.one_reading.ensures.apart })
+
+pub returns-clause-among : goal.returns-clause-among
+returns-clause-among c = stands_in_a_file
+
+pub returns-clause-model : goal.returns-clause-model
+returns-clause-model c = one_model (record { texts = c.one_reading.ensures.tokens; lexicals = c.one_reading.ensures.violation; apart = c.one_reading.ensures.apart })
