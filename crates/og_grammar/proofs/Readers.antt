@@ -1,12 +1,12 @@
 -- Readers of the parts of a grammar, put together as its rules are: what a reader makes has the forms of the tokens in front, and
 -- whatever has these forms is made of some choices by which the symbols derive the tokens.
-use Rattle.std.proofs.Common.{◌≡◌, ℕ, zero, suc, ◌+◌, ◌<◌, ◌≤◌, Bool, true, false, List, [], ◌∷◌, ◌++◌, length, Option, Some, None, slice_get, refl, sym, ap, subst, ◌∙◌, append_assoc, length-append, arith, map}
+use Rattle.std.proofs.Common.{◌≡◌, ℕ, zero, suc, ◌+◌, ◌<◌, ◌≤◌, Bool, true, false, List, [], ◌∷◌, ◌++◌, length, Option, Some, None, slice_get, ◌⊎◌, inl, inr, refl, sym, ap, subst, ◌∙◌, append_assoc, length-append, arith, map}
 use Rattle.std.specs.List.{flat_map}
 use Rattle.og_grammar.specs.declared.Nesting.{Nesting}
 use Rattle.og_grammar.specs.declared.Symbol.{Symbol}
 use Rattle.og_grammar.specs.declared.Symbol.TheVariants.{Token, Part, Maybe, Many}
 use Rattle.og_grammar.specs.Sentence.{rules_of, Derives, token, chosen}
-use Rattle.og_grammar.specs.Reading.{Take, behind, after, goes_on, maybe, repeated, many, Begins}
+use Rattle.og_grammar.specs.Reading.{Take, behind, after, choice_in, goes_on, maybe, repeated, many, Begins}
 use Rattle.og_grammar.proofs.Known.{some_is}
 use Rattle.og_grammar.proofs.Repeats.{turn, stop}
 use Rattle.og_grammar.proofs.Telling.{token_is}
@@ -146,27 +146,111 @@ as_other l {X = X} {Y = Y} {ss = ss} {a = a} {f = f} to from there back r = reco
       ap (λ (x : X × List ℕ × List l.token). (to x.0, x.1, x.2)) (r.takes (from y) tokens mid h choices) ∙ ap (λ (z : Y). (z, choices, mid)) (there y);
 }
 
--- ---- a part with one rule, an option, a repetition
+-- ---- a part with its rules
+
+-- one reader for each of some rules, by its number: whatever is made is made by the rule of its number
+pub record ReadsOneOf (l : Language) {X : Type 0} (rules : List (List Symbol)) (take : ℕ → Take l.token X) (forms : X → List l.form) : Type 0 where
+  pub number : X → ℕ
+  pub made : X → List ℕ
+  pub reads : (c : ℕ) (way : List Symbol) → slice_get rules c ≡ Some way → (rest : List Symbol) (tokens : List l.token) (choices : List ℕ) → Derives l.table (way ++ rest) (kinds l tokens) choices
+      → IsMade l rest forms made choices tokens (take c choices tokens) × (number (take c choices tokens).0 ≡ c)
+  pub writes : (x : X) (tokens mid : List l.token) → Begins l.IsSo (forms x) tokens mid → (rest : List Symbol) (choices : List ℕ) → Derives l.table rest (kinds l mid) choices
+      → (way : List Symbol) × (slice_get rules (number x) ≡ Some way) × Derives l.table (way ++ rest) (kinds l tokens) (made x ++ choices)
+  pub takes : (x : X) (tokens mid : List l.token) → Begins l.IsSo (forms x) tokens mid → (choices : List ℕ) → take (number x) (made x ++ choices) tokens ≡ (x, choices, mid)
 
 only_way : (way : List Symbol) (c : ℕ) (w : List Symbol) → slice_get (way ∷ []) c ≡ Some w → (c ≡ 0) × (way ≡ w)
 only_way way zero w e = (refl, some_is way w e)
 only_way way (suc c) w e = absurd cc
 
-pub part : (l : Language) {X : Type 0} (p : ℕ) {way : List Symbol} {a : Take l.token X} {f : X → List l.form} → rules_of p l.table ≡ way ∷ [] → Reads l way a f
-    → Reads l (Part p ∷ []) (λ choices tokens. a (after choices) tokens) f
-part l {X = X} p {way = way} {a = a} {f = f} one_rule r = record {
-  made = λ x. 0 ∷ r.made x;
+pub last_rule : (l : Language) {X : Type 0} {way : List Symbol} {a : Take l.token X} {f : X → List l.form} → Reads l way a f → ReadsOneOf l (way ∷ []) (λ c. a) f
+last_rule l {X = X} {way = way} {a = a} {f = f} r = record {
+  number = λ x. 0;
+  made = r.made;
+  reads = λ c w e rest tokens choices d.
+      let o = only_way way c w e in
+      (r.reads rest tokens choices (subst (λ (z : List Symbol). Derives l.table (z ++ rest) (kinds l tokens) choices) (sym o.1) d), sym o.0);
+  writes = λ x tokens mid h rest choices d. (way, refl, r.writes x tokens mid h rest choices d);
+  takes = λ x tokens mid h choices. r.takes x tokens mid h choices;
+}
+
+abbrev pub either_take : {T X Y : Type 0} → Take T X → (ℕ → Take T Y) → ℕ → Take T (X ⊎ Y)
+either_take a b zero choices tokens = let x = a choices tokens in (inl x.0, x.1, x.2)
+either_take a b (suc c) choices tokens = let y = b c choices tokens in (inr y.0, y.1, y.2)
+
+abbrev pub either : {X Y Z : Type 0} → (X → Z) → (Y → Z) → X ⊎ Y → Z
+either f g (inl x) = f x
+either f g (inr y) = g y
+
+pub or_rule : (l : Language) {X Y : Type 0} {way : List Symbol} {rules : List (List Symbol)} {a : Take l.token X} {b : ℕ → Take l.token Y} {f : X → List l.form} {g : Y → List l.form}
+    → Reads l way a f → ReadsOneOf l rules b g → ReadsOneOf l (way ∷ rules) (either_take a b) (either f g)
+or_rule l {X = X} {Y = Y} {way = way} {rules = rules} {a = a} {b = b} {f = f} {g = g} first others = record {
+  number = number;
+  made = either first.made others.made;
+  reads = read;
+  writes = write;
+  takes = take_it;
+}
+  where
+    number : X ⊎ Y → ℕ
+    number (inl x) = 0
+    number (inr y) = suc (others.number y)
+
+    read : (c : ℕ) (w : List Symbol) → slice_get (way ∷ rules) c ≡ Some w → (rest : List Symbol) (tokens : List l.token) (choices : List ℕ) → Derives l.table (w ++ rest) (kinds l tokens) choices
+        → IsMade l rest (either f g) (either first.made others.made) choices tokens (either_take a b c choices tokens) × (number (either_take a b c choices tokens).0 ≡ c)
+    read zero w e rest tokens choices d =
+        let m = first.reads rest tokens choices (subst (λ (z : List Symbol). Derives l.table (z ++ rest) (kinds l tokens) choices) (sym (some_is way w e)) d) in
+        (record { begins = m.begins; goes_on = m.goes_on; used = m.used }, refl)
+    read (suc c) w e rest tokens choices d =
+        let m = others.reads c w e rest tokens choices d in
+        (record { begins = m.0.begins; goes_on = m.0.goes_on; used = m.0.used }, ap suc m.1)
+
+    write : (x : X ⊎ Y) (tokens mid : List l.token) → Begins l.IsSo (either f g x) tokens mid → (rest : List Symbol) (choices : List ℕ) → Derives l.table rest (kinds l mid) choices
+        → (w : List Symbol) × (slice_get (way ∷ rules) (number x) ≡ Some w) × Derives l.table (w ++ rest) (kinds l tokens) (either first.made others.made x ++ choices)
+    write (inl x) tokens mid h rest choices d = (way, refl, first.writes x tokens mid h rest choices d)
+    write (inr y) tokens mid h rest choices d = others.writes y tokens mid h rest choices d
+
+    take_it : (x : X ⊎ Y) (tokens mid : List l.token) → Begins l.IsSo (either f g x) tokens mid → (choices : List ℕ) → either_take a b (number x) (either first.made others.made x ++ choices) tokens ≡ (x, choices, mid)
+    take_it (inl x) tokens mid h choices = ap (λ (z : X × List ℕ × List l.token). (inl z.0, z.1, z.2)) (first.takes x tokens mid h choices)
+    take_it (inr y) tokens mid h choices = ap (λ (z : Y × List ℕ × List l.token). (inr z.0, z.1, z.2)) (others.takes y tokens mid h choices)
+
+pub choice : (l : Language) {X : Type 0} (p : ℕ) {rules : List (List Symbol)} {a : ℕ → Take l.token X} {f : X → List l.form} → rules_of p l.table ≡ rules → ReadsOneOf l rules a f
+    → Reads l (Part p ∷ []) (λ choices tokens. a (choice_in choices) (after choices) tokens) f
+choice l {X = X} p {rules = rules} {a = a} {f = f} are r = record {
+  made = λ x. r.number x ∷ r.made x;
   reads = λ rest tokens choices d. by tokens d;
-  writes = λ x tokens mid h rest choices d. chosen (Part p) 0 way (ap (λ (rules : List (List Symbol)). slice_get rules 0) one_rule) (r.writes x tokens mid h rest choices d);
+  writes = λ x tokens mid h rest choices d.
+      let w = r.writes x tokens mid h rest choices d in
+      chosen (Part p) (r.number x) w.0 (ap (λ (all : List (List Symbol)). slice_get all (r.number x)) are ∙ w.1) w.2;
   takes = λ x tokens mid h choices. r.takes x tokens mid h choices;
 }
   where
     by : {rest : List Symbol} {choices : List ℕ} (tokens : List l.token) → Derives l.table (Part p ∷ rest) (kinds l tokens) choices
-        → IsMade l rest f (λ x. 0 ∷ r.made x) choices tokens (a (after choices) tokens)
+        → IsMade l rest f (λ x. r.number x ∷ r.made x) choices tokens (a (choice_in choices) (after choices) tokens)
     by {rest = rest} tokens (chosen {choices = cs} _ c w e d) =
-        let o = only_way way c w (subst (λ (rules : List (List Symbol)). slice_get rules c ≡ Some w) one_rule e) in
-        let m = r.reads rest tokens cs (subst (λ (z : List Symbol). Derives l.table (z ++ rest) (kinds l tokens) cs) (sym o.1) d) in
-        record { begins = m.begins; goes_on = m.goes_on; used = ap (λ (n : ℕ). n ∷ cs) o.0 ∙ ap (λ (z : List ℕ). 0 ∷ z) m.used }
+        let m = r.reads c w (ap (λ (all : List (List Symbol)). slice_get all c) (sym are) ∙ e) rest tokens cs d in
+        record { begins = m.0.begins; goes_on = m.0.goes_on; used = ap (λ (n : ℕ). n ∷ cs) (sym m.1) ∙ ap (λ (z : List ℕ). r.number (a c cs tokens).0 ∷ z) m.0.used }
+
+pub part : (l : Language) {X : Type 0} (p : ℕ) {way : List Symbol} {a : Take l.token X} {f : X → List l.form} → rules_of p l.table ≡ way ∷ [] → Reads l way a f
+    → Reads l (Part p ∷ []) (λ choices tokens. a (after choices) tokens) f
+part l p one_rule r = choice l p one_rule (last_rule l r)
+
+-- ---- a reader that makes the same, of the same forms
+
+pub same : (l : Language) {X : Type 0} {ss : List Symbol} {a b : Take l.token X} {f g : X → List l.form} → ((choices : List ℕ) (tokens : List l.token) → a choices tokens ≡ b choices tokens)
+    → ((x : X) → f x ≡ g x) → Reads l ss a f → Reads l ss b g
+same l {X = X} {a = a} {b = b} {f = f} {g = g} makes is r = record {
+  made = r.made;
+  reads = λ rest tokens choices d.
+      let m = r.reads rest tokens choices d in
+      let x = a choices tokens in
+      subst (λ (z : X × List ℕ × List l.token). IsMade l rest g r.made choices tokens z) (makes choices tokens)
+      (record { begins = subst (λ (forms : List l.form). Begins l.IsSo forms tokens x.2) (is x.0) m.begins; goes_on = m.goes_on; used = m.used });
+  writes = λ x tokens mid h rest choices d. r.writes x tokens mid (subst (λ (forms : List l.form). Begins l.IsSo forms tokens mid) (sym (is x)) h) rest choices d;
+  takes = λ x tokens mid h choices.
+      sym (makes (r.made x ++ choices) tokens) ∙ r.takes x tokens mid (subst (λ (forms : List l.form). Begins l.IsSo forms tokens mid) (sym (is x)) h) choices;
+}
+
+-- ---- an option, a repetition
 
 -- how an option or a repetition goes on: with what is behind it, or with the part and more
 record Turns (table : List Symbol) (p : ℕ) (more rest : List Symbol) (tokens choices : List ℕ) : Type 0 where

@@ -17,6 +17,11 @@ abbrev pub after : List ℕ → List ℕ
 after [] = []
 after (c ∷ cs) = cs
 
+-- the choice in front
+abbrev pub choice_in : List ℕ → ℕ
+choice_in [] = 0
+choice_in (c ∷ cs) = c
+
 abbrev pub goes_on : List ℕ → Bool
 goes_on [] = false
 goes_on (c ∷ cs) = c == 1

@@ -1,5 +1,5 @@
-//! Each line of the input is a limit of nesting and the words of a text; `3*(` stands for a word three times. The answer for
-//! the grammar for trial is written: the choices of the derivation, the place of the first wrong word, the place of the
+//! Each line of the input is a limit of nesting and the words of a text; `3*(` stands for a word three times, and `3*,~a` for
+//! two words three times. The answer for the grammar for trial is written: the choices of the derivation, the place of the first wrong word, the place of the
 //! first that nests too deep, or that the text breaks off. Places count words from 0.
 #![tactic(auto)]
 
@@ -55,14 +55,27 @@ fn shown(alloc: Global, choices: &[u8]) -> Result<String, AllocError> {
 fn kinds_of(alloc: Global, words: &str) -> Result<Vec<u8>, AllocError> {
     let mut kinds = Vec::new(alloc);
     for word in words.split(' ').filter(|word| !word.is_empty()) {
-        let (times, word) = match word.split_once('*') {
-            Some((times, word)) if !times.is_empty() => (times.parse::<u32>().unwrap_or(1), word),
+        let (times, group) = match word.split_once('*') {
+            Some((times, group)) if !times.is_empty() => {
+                (times.parse::<u32>().unwrap_or(1), group)
+            }
             _ => (1, word),
         };
-        let kind = kind_of(word);
+        let group = kinds_of_group(alloc, group)?;
         for _ in 0..times {
-            kinds.push(kind)?;
+            for kind in group.as_slice() {
+                kinds.push(*kind)?;
+            }
         }
+    }
+    Ok(kinds)
+}
+
+/// The kinds of words that are joined by `~`.
+fn kinds_of_group(alloc: Global, group: &str) -> Result<Vec<u8>, AllocError> {
+    let mut kinds = Vec::new(alloc);
+    for word in group.split('~') {
+        kinds.push(kind_of(word))?;
     }
     Ok(kinds)
 }
