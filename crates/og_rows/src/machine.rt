@@ -41,10 +41,7 @@ fn show_loaded(
         return out.push_str("no memory\n");
     };
     match started(alloc, program, &model, &regions) {
-        Ok(mut machine) => {
-            show_run(&mut machine, count, out)?;
-            show_read(&machine, out)
-        }
+        Ok(machine) => show_start(machine, count, out),
         Err(LoadError::BadProgram(rule)) => write!(out, "bad {rule:?}\n"),
         Err(_) => out.push_str("no memory\n"),
     }
@@ -62,6 +59,11 @@ fn started(
     let mut machine = Machine::load(alloc, program, model, regions)?;
     machine.begin(StimId::Start)?;
     Ok(machine)
+}
+
+fn show_start(mut machine: Machine, count: u64, out: &mut String) -> Result<(), AllocError> {
+    show_run(&mut machine, count, out)?;
+    show_read(&machine, out)
 }
 
 /// Carries out so many statements, or those up to the end.
