@@ -1,7 +1,8 @@
 -- Words that were worked out by hand.
-use Rattle.std.proofs.Common.{◌≡◌, ◌≢◌, ℕ, ◌<◌, ◌≤◌, List, [], ◌∷◌, ◌++◌, length, refl, inl, inr, ap, arith, codes, decimal}
+use Rattle.std.proofs.Common.{◌≡◌, ◌≢◌, ℕ, List, [], ◌∷◌, refl, inl, inr, ap, arith, codes}
 use Rattle.std.specs.List.{AllByRecursion}
-use Rattle.og_tool.specs.Words.{Check, Compile, Run, Simulate, HasEnding, IsSdlFile, IsAsnFile, IsModelFile, IsProgramFile, IsStimuliFile, AreDifferent, HasSdlFile, AreModelFiles, AsksFor, IsNoCommand}
+use Rattle.std.specs.Fmt.{digits}
+use Rattle.og_tool.specs.Words.{Check, Compile, Run, Simulate, IsSdlFile, IsAsnFile, IsModelFile, IsProgramFile, IsStimuliFile, AreDifferent, HasSdlFile, AreModelFiles, AsksFor, IsNoCommand}
 use Rattle.og_tool.proofs.CommandForms.{short_is_none}
 use Rattle.og_tool.proofs.OneCommand.{last_byte, ends_in, no_files}
 
@@ -30,6 +31,7 @@ pub compile : AsksFor (codes "cc" ∷ codes "m.pr" ∷ []) (Compile (codes "m.pr
 compile = record { behind = []; are = refl; files = one_file; stands = refl }
 
 pub run : AsksFor (codes "run" ∷ codes "m.pr" ∷ codes "p.c" ∷ codes "s.stim" ∷ codes "--steps" ∷ codes "50" ∷ []) (Run (codes "m.pr" ∷ []) (codes "p.c") (codes "s.stim") 50)
+unfolding digits
 run = record {
   behind = codes "p.c" ∷ codes "s.stim" ∷ codes "--steps" ∷ codes "50" ∷ [];
   are = refl;
