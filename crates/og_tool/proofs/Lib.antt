@@ -2,6 +2,7 @@ pub mod RunParts
 pub mod Layers
 pub mod CommandForms
 pub mod OneCommand
+pub mod WordExamples
 pub mod GivenStimuli
 pub mod ProgramParts
 pub mod RunningParts

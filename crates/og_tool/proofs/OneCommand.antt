@@ -10,7 +10,7 @@ use Rattle.og_tool.specs.Words.{Command, Check, Compile, Run, Simulate, HasEndin
 
 -- ---- endings
 
-abbrev last_byte : ℕ → List ℕ → ℕ
+abbrev pub last_byte : ℕ → List ℕ → ℕ
 last_byte before [] = before
 last_byte before (b ∷ bs) = last_byte b bs
 
@@ -19,7 +19,7 @@ last_behind before [] b bs = refl
 last_behind before (x ∷ stem) b bs = last_behind x stem b bs
 
 -- the name ends in this letter
-ends_in : (name : List ℕ) (b : ℕ) (bs : List ℕ) → HasEnding (b ∷ bs) name → last_byte 0 name ≡ last_byte b bs
+pub ends_in : (name : List ℕ) (b : ℕ) (bs : List ℕ) → HasEnding (b ∷ bs) name → last_byte 0 name ≡ last_byte b bs
 ends_in name b bs h = ap (last_byte 0) h.2 ∙ last_behind 0 h.0 b bs
 
 -- no model file ends in `c` or `m`

@@ -17,7 +17,7 @@ pub use og_front::{
 };
 pub use output_laws::{
     agreeing_is_never_stuck, enough_is_enough, one_command, one_judgement, one_output,
-    one_simulation,
+    one_simulation, words_as_worked_out,
 };
 pub use run::run_tool;
 pub use status::Status;

@@ -1,5 +1,6 @@
 //! Laws of what a command calls for, each as the contract of a function that does nothing.
-ghost use Rattle.std.specs.Prelude.{◌≡◌, ◌≢◌, ◌⊎◌, ◌<◌, ◌≤◌, ℕ, List, [], ◌∷◌, length, Some, false};
+ghost use Rattle.std.specs.Prelude.{◌≡◌, ◌≢◌, ◌⊎◌, ◌<◌, ◌≤◌, ℕ, List, [], ◌∷◌, length, codes, Some, false};
+ghost use Rattle.std.specs.List.{AllByRecursion};
 ghost use Rattle.og_base.specs.Store.{Files};
 ghost use Rattle.og_base.specs.declared.Violation.{Violation};
 ghost use Rattle.og_csubset.specs.Agreement.{SameBehaviour, enough};
@@ -14,7 +15,7 @@ ghost use Rattle.og_tool.specs.Answers.{IsOutputFor, IsReport, IsTooLargeFor};
 ghost use Rattle.og_trace.specs.Stims.{stims_of, given};
 ghost use Rattle.og_trace.specs.Traces.{run_outcome};
 ghost use Rattle.og_trace.specs.declared.Outcome.TheVariants as outcome;
-ghost use Rattle.og_tool.specs.Words.{Command, Check, Compile, Run, Simulate, AsksFor};
+ghost use Rattle.og_tool.specs.Words.{Command, Check, Compile, Run, Simulate, AsksFor, IsNoCommand, IsModelFile, HasSdlFile, AreDifferent};
 
 use og_csubset::{
     agreeing_programs_show_the_same, more_statements_go_on, one_answer, one_deep_place,
@@ -95,4 +96,17 @@ pub fn one_judgement()
 /// Words ask for at most one command.
 pub fn one_command()
     ensures { (words : List (List ℕ)) (command other : Command) → AsksFor words command → AsksFor words other → command ≡ other }
+{}
+
+/// Words of each command, and words of none, as worked out by hand; names of files that may stand together, and such as may not.
+pub fn words_as_worked_out()
+    ensures check { AsksFor (codes "check" ∷ codes "m.pr" ∷ []) (Check (codes "m.pr" ∷ [])) }
+    ensures compile { AsksFor (codes "cc" ∷ codes "m.pr" ∷ []) (Compile (codes "m.pr" ∷ [])) }
+    ensures run { AsksFor (codes "run" ∷ codes "m.pr" ∷ codes "p.c" ∷ codes "s.stim" ∷ codes "--steps" ∷ codes "50" ∷ []) (Run (codes "m.pr" ∷ []) (codes "p.c") (codes "s.stim") 50) }
+    ensures simulate { AsksFor (codes "sim" ∷ codes "m.pr" ∷ codes "s.stim" ∷ []) (Simulate (codes "m.pr" ∷ []) (codes "s.stim") 1000000) }
+    ensures no_stem { IsNoCommand (codes "cc" ∷ codes ".pr" ∷ []) }
+    ensures no_process { IsNoCommand (codes "cc" ∷ codes "d.asn" ∷ []) }
+    ensures in_any_order { AllByRecursion IsModelFile (codes "d.asn" ∷ codes "m.pr" ∷ codes "e.asn1" ∷ []) × HasSdlFile (codes "d.asn" ∷ codes "m.pr" ∷ codes "e.asn1" ∷ [])
+        × AreDifferent (codes "d.asn" ∷ codes "m.pr" ∷ codes "e.asn1" ∷ []) }
+    ensures twice { AreDifferent (codes "m.pr" ∷ codes "d.asn" ∷ codes "m.pr" ∷ []) → ⊥ }
 {}
