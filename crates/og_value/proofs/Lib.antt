@@ -1,0 +1,5 @@
+pub mod Runs
+pub mod Steps
+pub mod Numbers
+pub mod Places
+pub mod Turns
