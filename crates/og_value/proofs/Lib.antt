@@ -3,3 +3,7 @@ pub mod Steps
 pub mod Numbers
 pub mod Places
 pub mod Turns
+pub mod Fronts
+pub mod Spelt
+pub mod Exact
+pub mod Sound
