@@ -13,13 +13,13 @@ use Rattle.og_value.proofs.Spelt.{starts, closes, closing, spelt_starts, past_to
 -- ---- one level
 
 -- what begins with digits
-by_digits : (inner : Option (Reader (Unit {0}))) (bytes ds r : List ℕ) → digits_at bytes ≡ Some (ds, r) → form_by inner bytes ≡ Some (tt, r)
+pub by_digits : (inner : Option (Reader (Unit {0}))) (bytes ds r : List ℕ) → digits_at bytes ≡ Some (ds, r) → form_by inner bytes ≡ Some (tt, r)
 unfolding form_by
 by_digits inner bytes ds r e =
     ap (λ found. found_or found (found_or (minus_digits_at bytes) (found_or (word_at bytes) (open_by inner bytes) (λ w rest. Some (tt, past_word inner (truth_of w) rest))) (λ _ rest. Some (tt, rest))) (λ _ rest. Some (tt, rest))) e
 
 -- what begins with a sign
-by_minus : (inner : Option (Reader (Unit {0}))) (bytes ds r : List ℕ) → digits_at bytes ≡ None → minus_digits_at bytes ≡ Some (ds, r) → form_by inner bytes ≡ Some (tt, r)
+pub by_minus : (inner : Option (Reader (Unit {0}))) (bytes ds r : List ℕ) → digits_at bytes ≡ None → minus_digits_at bytes ≡ Some (ds, r) → form_by inner bytes ≡ Some (tt, r)
 unfolding form_by
 by_minus inner bytes ds r none e = rw (none, e) refl
 
@@ -39,7 +39,7 @@ by_brace one more = refl
 abbrev pub stops : ℕ → Bool
 stops b = closes b || b == 58
 
-stopping : (P : ℕ → Type 0) → P 44 → P 125 → P 58 → (b : ℕ) → stops b ≡ true → P b
+pub stopping : (P : ℕ → Type 0) → P 44 → P 125 → P 58 → (b : ℕ) → stops b ≡ true → P b
 stopping P comma brace colon b h = elim (either_true (closes b) (b == 58) h) [
     inl close ↦ closing P comma brace b close
   | inr e ↦ subst P (sym (eqb-true b 58 e)) colon
@@ -91,7 +91,7 @@ colon_found one x y {t = t} r rest bx by s e =
 pub ends_before : (x : List ℕ) (m : ℕ) (bs : List ℕ) → AreBlanks x → is_word m ≡ false → EndsWord (x ++ (m ∷ bs))
 ends_before x m bs bx h = blanks_end_word x (m ∷ bs) bx h
 
-group4 : (w x : List ℕ) (m : ℕ) (y t r : List ℕ) → (w ++ (x ++ (m ∷ (y ++ t)))) ++ r ≡ w ++ (x ++ (m ∷ (y ++ (t ++ r))))
+pub group4 : (w x : List ℕ) (m : ℕ) (y t r : List ℕ) → (w ++ (x ++ (m ∷ (y ++ t)))) ++ r ≡ w ++ (x ++ (m ∷ (y ++ (t ++ r))))
 group4 w x m y t r = simp append_assoc
 
 -- an alternative, where its value is read up to some rest
@@ -116,7 +116,7 @@ brace_behind y bs by = mark_behind 125 y bs by refl refl
 pub comma_behind : (y bs : List ℕ) → AreBlanks y → mark_at 44 (y ++ (44 ∷ bs)) ≡ Some (tt, bs)
 comma_behind y bs by = mark_behind 44 y bs by refl refl
 
-no_comma : (y bs : List ℕ) → AreBlanks y → mark_at 44 (y ++ (125 ∷ bs)) ≡ None
+pub no_comma : (y bs : List ℕ) → AreBlanks y → mark_at 44 (y ++ (125 ∷ bs)) ≡ None
 no_comma y bs by = ap (mark_here 44) (blanks_off y (125 ∷ bs) by)
 
 pub comma_none : {A : Type 0} (one : Reader A) (bytes : List ℕ) → mark_at 44 bytes ≡ None → comma_by one bytes ≡ None
@@ -137,11 +137,11 @@ unfolding past_all
 past_one one n bytes rest found = ap (past_by (past_all one n) bytes) found
 
 -- no name stands where no letter does
-no_name : (bytes : List ℕ) → word_at bytes ≡ None → name_at bytes ≡ None
+pub no_name : (bytes : List ℕ) → word_at bytes ≡ None → name_at bytes ≡ None
 unfolding name_at
 no_name bytes none = ap (λ found. and_then found unless_truth) none
 
-truth_no_name : (w q : List ℕ) (b : Bool) → truth_of w ≡ Some b → EndsWord q → name_at (w ++ q) ≡ None
+pub truth_no_name : (w q : List ℕ) (b : Bool) → truth_of w ≡ Some b → EndsWord q → name_at (w ++ q) ≡ None
 unfolding name_at
 truth_no_name w q b h ends =
     ap (λ found. and_then found unless_truth) (word_exactly w q (truth_letter w b h) (truth_all w b h) ends)
@@ -155,19 +155,19 @@ part_named : (one : Reader (Unit {0})) (bytes w rest : List ℕ) → name_at byt
 unfolding part_by
 part_named one bytes w rest found = ap (λ p. and_then p (λ w rest. one (past_blanks rest))) found
 
-close_stops : (bs : List ℕ) → begins closes bs ≡ true → begins stops bs ≡ true
+pub close_stops : (bs : List ℕ) → begins closes bs ≡ true → begins stops bs ≡ true
 close_stops [] h = h
 close_stops (b ∷ bs) h = either_first (closes b) (b == 58) h
 
-no_word_at_brace : (bs : List ℕ) → word_at (123 ∷ bs) ≡ None
+pub no_word_at_brace : (bs : List ℕ) → word_at (123 ∷ bs) ≡ None
 unfolding word_at
 no_word_at_brace bs = refl
 
-no_digits_at_minus : (bs : List ℕ) → digits_at (45 ∷ bs) ≡ None
+pub no_digits_at_minus : (bs : List ℕ) → digits_at (45 ∷ bs) ≡ None
 unfolding digits_at
 no_digits_at_minus bs = refl
 
-no_word_at_minus : (bs : List ℕ) → word_at (45 ∷ bs) ≡ None
+pub no_word_at_minus : (bs : List ℕ) → word_at (45 ∷ bs) ≡ None
 unfolding word_at
 no_word_at_minus bs = refl
 
@@ -236,13 +236,13 @@ name_exact inner w r name follows =
 
 -- ---- whole texts
 
-group_none : (x r : List ℕ) → (x ++ (125 ∷ [])) ++ r ≡ x ++ (125 ∷ r)
+pub group_none : (x r : List ℕ) → (x ++ (125 ∷ [])) ++ r ≡ x ++ (125 ∷ r)
 group_none x r = simp append_assoc
 
-group_items : (x t y more r : List ℕ) → (x ++ (t ++ (y ++ more))) ++ r ≡ x ++ (t ++ (y ++ (more ++ r)))
+pub group_items : (x t y more r : List ℕ) → (x ++ (t ++ (y ++ more))) ++ r ≡ x ++ (t ++ (y ++ (more ++ r)))
 group_items x t y more r = simp append_assoc
 
-group_parts : (x w g t y more r : List ℕ) → (x ++ (w ++ (g ++ (t ++ (y ++ more))))) ++ r ≡ x ++ (w ++ (g ++ (t ++ (y ++ (more ++ r)))))
+pub group_parts : (x w g t y more r : List ℕ) → (x ++ (w ++ (g ++ (t ++ (y ++ more))))) ++ r ≡ x ++ (w ++ (g ++ (t ++ (y ++ (more ++ r)))))
 group_parts x w g t y more r = simp append_assoc
 
 -- one level less
@@ -258,7 +258,7 @@ deeper (suc d) n h = record { less = d; is = refl; enough = omega (arith, h) }
 pub at_depth : (d less : ℕ) (bytes : List ℕ) → d ≡ suc less → form_at d bytes ≡ form_by (Some (form_at less)) bytes
 at_depth d less bytes e = form_is d bytes ∙ ap (λ k. form_by (inner_form k) bytes) e
 
-by_none : (one : Reader (Unit {0})) (x r : List ℕ) → AreBlanks x → form_by (Some one) ((123 ∷ (x ++ (125 ∷ []))) ++ r) ≡ Some (tt, r)
+pub by_none : (one : Reader (Unit {0})) (x r : List ℕ) → AreBlanks x → form_by (Some one) ((123 ∷ (x ++ (125 ∷ []))) ++ r) ≡ Some (tt, r)
 by_none one x r bx =
     ap (λ bs. form_by (Some one) (123 ∷ bs)) (group_none x r) ∙ by_brace one (x ++ (125 ∷ r))
     ∙ ap (braces_by one) (blanks_off x (125 ∷ r) bx) ∙ braces_none one r
@@ -293,16 +293,16 @@ closed_more : (one : Reader (Unit {0})) (n : ℕ) (y bytes rest r : List ℕ) �
 closed_more one n y bytes rest r by e closed =
     ap (mark_at 125) (past_one (comma_by one) n (y ++ (44 ∷ bytes)) rest (comma_found one (y ++ (44 ∷ bytes)) bytes (comma_behind y bytes by) ∙ e)) ∙ closed
 
-front_of : (y more r : List ℕ) → length more ≤ length (y ++ (more ++ r))
+pub front_of : (y more r : List ℕ) → length more ≤ length (y ++ (more ++ r))
 front_of y more r = omega (arith, length-append y (more ++ r), length-append more r)
 
-tail_le : (x t y more : List ℕ) → length more ≤ length (x ++ (t ++ (y ++ more)))
+pub tail_le : (x t y more : List ℕ) → length more ≤ length (x ++ (t ++ (y ++ more)))
 tail_le x t y more = omega (arith, length-append x (t ++ (y ++ more)), length-append t (y ++ more), length-append y more)
 
-tails_le : (x w g t y more : List ℕ) → length more ≤ length (x ++ (w ++ (g ++ (t ++ (y ++ more)))))
+pub tails_le : (x w g t y more : List ℕ) → length more ≤ length (x ++ (w ++ (g ++ (t ++ (y ++ more)))))
 tails_le x w g t y more = omega (arith, tail_le g t y more, tail_le x w [] (g ++ (t ++ (y ++ more))))
 
-closed_is : (one : Reader (Unit {0})) (rest end : List ℕ) → mark_at 125 (past_all (comma_by one) (length rest) rest) ≡ Some (tt, end) → closed_by one rest ≡ Some (tt, end)
+pub closed_is : (one : Reader (Unit {0})) (rest end : List ℕ) → mark_at 125 (past_all (comma_by one) (length rest) rest) ≡ Some (tt, end) → closed_by one rest ≡ Some (tt, end)
 unfolding closed_by
 closed_is one rest end h = h
 
@@ -332,7 +332,7 @@ mutual
         (exact s inner.less (omega (arith, inner.enough)) (y ++ (more ++ r)) (follows_close y (more ++ r) by (parts_close others r)))
         (closed_is (part_by (form_at inner.less)) _ r (parts_exact others inner.less (omega (arith, inner.enough)) y r by (length (y ++ (more ++ r))) (front_of y more r)))
 
-  items_exact : {fs : Forms} {more : List ℕ} → ItemsGoOn fs more → (d : ℕ) → nesting_of_items fs ≤ d → (y r : List ℕ) → AreBlanks y → (n : ℕ) → length more ≤ n
+  pub items_exact : {fs : Forms} {more : List ℕ} → ItemsGoOn fs more → (d : ℕ) → nesting_of_items fs ≤ d → (y r : List ℕ) → AreBlanks y → (n : ℕ) → length more ≤ n
       → mark_at 125 (past_all (comma_by (form_at d)) n (y ++ (more ++ r))) ≡ Some (tt, r)
   items_exact no_more_items d h y r by n le = closed_here (form_at d) n y r by
   items_exact (further_item x y' {f = f} {fs = fs} {t = t} {more = more} bx s by' others) d h y r by n le =
@@ -343,7 +343,7 @@ mutual
         (ap (form_at d) (past_to s x (y' ++ (more ++ r)) bx) ∙ exact s d (omega (arith, h)) (y' ++ (more ++ r)) (follows_close y' (more ++ r) by' (items_close others r)))
         (items_exact others d (omega (arith, h)) y' r by' m.less (omega (arith, m.enough, tail_le x t y' more)))
 
-  parts_exact : {fs : Fields} {more : List ℕ} → PartsGoOn fs more → (d : ℕ) → nesting_of_parts fs ≤ d → (y r : List ℕ) → AreBlanks y → (n : ℕ) → length more ≤ n
+  pub parts_exact : {fs : Fields} {more : List ℕ} → PartsGoOn fs more → (d : ℕ) → nesting_of_parts fs ≤ d → (y r : List ℕ) → AreBlanks y → (n : ℕ) → length more ≤ n
       → mark_at 125 (past_all (comma_by (part_by (form_at d))) n (y ++ (more ++ r))) ≡ Some (tt, r)
   parts_exact no_more_parts d h y r by n le = closed_here (part_by (form_at d)) n y r by
   parts_exact (further_part x w g y' {f = f} {fs = fs} {t = t} {more = more} bx name bg apart s by' others) d h y r by n le =

@@ -7,3 +7,5 @@ pub mod Fronts
 pub mod Spelt
 pub mod Exact
 pub mod Sound
+pub mod Longest
+pub mod Means

@@ -136,7 +136,7 @@ colon_sound d one sound bytes w r p at none e =
       nested = omega (arith, value.nested)
     }
 
-found_cases : {A : Type 0} (o : Option A) → (o ≡ None) ⊎ ((x : A) × (o ≡ Some x))
+pub found_cases : {A : Type 0} (o : Option A) → (o ≡ None) ⊎ ((x : A) × (o ≡ Some x))
 found_cases None = inl refl
 found_cases (Some x) = inr (x, refl)
 
