@@ -9,3 +9,4 @@ pub mod Exact
 pub mod Sound
 pub mod Longest
 pub mod Means
+pub mod Fitting

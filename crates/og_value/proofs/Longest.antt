@@ -32,6 +32,9 @@ form_shortens d bytes rest e =
     let found = sound d bytes rest e in
     subst (λ (bs : List ℕ). length rest ≤ length bs) (sym found.front) (behind_text found.text rest)
 
+pub rest_within : (d : ℕ) (bytes rest : List ℕ) → Some (tt, rest) ≡ form_at d bytes → length rest ≤ length bytes
+rest_within d bytes rest e = form_shortens d bytes rest (sym e)
+
 abbrev InnerShortens : Option (Reader (Unit {0})) → Type 0
 InnerShortens None = Unit {0}
 InnerShortens (Some one) = Shortens one

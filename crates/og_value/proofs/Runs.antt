@@ -16,7 +16,7 @@ pub drop_front : (xs ys : List ℕ) → drop (length xs) (xs ++ ys) ≡ ys
 drop_front [] ys = refl
 drop_front (x ∷ xs) ys = drop_front xs ys
 
-front_len : (xs ys : List ℕ) → length (xs ++ ys) - length ys ≡ length xs
+pub front_len : (xs ys : List ℕ) → length (xs ++ ys) - length ys ≡ length xs
 front_len xs ys = omega (arith, length-append xs ys)
 
 pub before_is : (xs ys : List ℕ) → take (length (xs ++ ys) - length ys) (xs ++ ys) ≡ xs

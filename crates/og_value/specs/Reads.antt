@@ -13,7 +13,7 @@ use Rattle.og_types.specs.declared.Value.{Value}
 use Rattle.og_types.specs.declared.Value as Values
 use Rattle.og_types.specs.Values.{is_between}
 use Rattle.og_value.specs.Bytes.{number_of}
-use Rattle.og_value.specs.Forms.{Form, Number, Truth, Name, Alternative, Items, Parts, Forms, no_item, item, Fields, no_part, part, Spells, IsLongest}
+use Rattle.og_value.specs.Forms.{Form, Number, Truth, Name, Alternative, Items, Parts, Forms, no_item, item, Fields, no_part, part, Spells, nesting, IsLongest}
 
 infixl 10 ◌>>=◌
 -- goes on with what there is
@@ -123,6 +123,7 @@ abbrev mutual
 pub record Reads (types : List Sort) (names : Names) (id : TypeId) (text : List ℕ) (value : Value) : Type 0 where
   pub form : Form
   pub spelt : Spells form text
+  pub nested : nesting form ≤ 64
   pub means : value_of types names (slice_get types id.0) form ≡ Some value
 
 -- what the longest text of a value at a place reads as, and where it ends

@@ -6,10 +6,12 @@ ghost use Rattle.og_value.specs.declared.ValueError.TheVariants.{NoMemory as Out
 
 mod forms;
 mod parts;
+mod read;
 mod tokens;
 mod values;
 
 use og_names::NoMemory;
+pub use read::{ReadValue, read_value};
 use std::alloc::{AllocError, AllocFailed};
 
 /// Why a text gives no value: the longest text of a value at its place reads as none of the type, or there is none; or memory
