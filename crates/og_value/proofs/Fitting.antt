@@ -93,7 +93,7 @@ told_value types now names id text bytes at n v t b e =
 pub told_bad : (types now : List Sort) (names : Names) (id : TypeId) (text bytes : List ℕ) (at : ℕ) (error : ValueError) → types ≡ now → bytes ≡ drop at text
     → Gives {X = Value × ℕ} (λ x. x) (Err error) (found_in types names id bytes) → IsErrOf {T = ReadValue} (Err error) Bad → (v : Value) (next : ℕ) → IsReadAt now names id text at v next → ⊥
 told_bad types now names id text bytes at error t b gives is v next read =
-    let same : error ≡ Bad = is in
+    let same : error ≡ Bad = cc in
     let none : found_in types names id bytes ≡ None = subst (λ (e : ValueError). Gives {X = Value × ℕ} (λ x. x) (Err e) (found_in types names id bytes)) same gives in
     none-some (v, length read.text)
     (sym none ∙ (λ i. found_in (t i) names id (b i)) ∙ read_is_found now names id (drop at text) read.text v read.longest read.reads)
