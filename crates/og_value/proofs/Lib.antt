@@ -9,4 +9,5 @@ pub mod Exact
 pub mod Sound
 pub mod Longest
 pub mod Means
-pub mod Fitting
+pub mod Told
+pub mod Within

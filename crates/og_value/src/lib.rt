@@ -4,12 +4,15 @@
 ghost use Rattle.std.specs.Prelude.{◌≡◌};
 ghost use Rattle.og_value.specs.declared.ValueError.TheVariants.{NoMemory as OutOfMemory};
 
+
 mod forms;
+mod membership;
 mod parts;
 mod read;
 mod tokens;
 mod values;
 
+pub use membership::fits;
 use og_names::NoMemory;
 pub use read::{ReadValue, read_value};
 use std::alloc::{AllocError, AllocFailed};

@@ -1,4 +1,4 @@
-use Rattle.og_value.proofs.Fitting.{told_value, told_bad}
+use Rattle.og_value.proofs.Told.{told_value, told_bad}
 use Rattle.og_value.proofs.read.read_value.Goals as goal
 
 pub returns-in-Ok-clause-found : goal.returns-in-Ok-clause-found
