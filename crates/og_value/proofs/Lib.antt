@@ -11,3 +11,4 @@ pub mod Longest
 pub mod Means
 pub mod Told
 pub mod Within
+pub mod Written

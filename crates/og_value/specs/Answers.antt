@@ -1,5 +1,5 @@
 -- How calls answer that find a value in a text, or none, or no memory. The form of the answers is this project's own.
-use Rattle.std.specs.Prelude.{◌≡◌, ⊤, List, ◌++◌, Option, Some, None, Result, Ok, Err}
+use Rattle.std.specs.Prelude.{◌≡◌, ⊤, ℕ, List, ◌++◌, Option, Some, None, Result, Ok, Err}
 use Rattle.og_value.specs.declared.ValueError.{ValueError}
 use Rattle.og_value.specs.declared.ValueError.TheVariants.{Bad, NoMemory}
 use Rattle.og_value.specs.Scans.{Found, and_then}
@@ -18,3 +18,8 @@ IsOutOfMemory (NoMemory met) = ⊤
 -- what was read before, and what is still read
 abbrev pub with_front : {X : Type 0} → List X → Found (List X) → Found (List X)
 with_front front found = and_then found (λ xs rest. Some (front ++ xs, rest))
+
+-- the bytes begin with the old ones
+pub record Keeps (old new : List ℕ) : Type 0 where
+  pub more : List ℕ
+  pub is : new ≡ old ++ more

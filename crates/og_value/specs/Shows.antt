@@ -24,6 +24,14 @@ abbrev pub enumerator_text : Names → Option NameId → List ℕ
 enumerator_text names None = []
 enumerator_text names (Some id) = name_text names id
 
+abbrev pub truth_text : Bool → List ℕ
+truth_text b = if b then codes "TRUE" else codes "FALSE"
+
+-- what stands before a text that comes after so many others
+abbrev pub comma_before : ℕ → List ℕ
+comma_before zero = []
+comma_before (suc n) = codes ", "
+
 -- with `, ` between two of them
 abbrev pub separated : List (List ℕ) → List ℕ
 separated [] = []
@@ -33,11 +41,14 @@ separated (text ∷ other ∷ texts) = text ++ (codes ", " ++ separated (other �
 abbrev pub braced : List (List ℕ) → List ℕ
 braced texts = codes "{" ++ (separated texts ++ codes "}")
 
--- the components with their names
+-- a component with its name
+abbrev pub part_text : (TypeId → Value → List ℕ) → Names → Part → Value → List ℕ
+part_text show names p v = name_text names p.name ++ (codes " " ++ show p.sort v)
+
 abbrev pub part_texts : (TypeId → Value → List ℕ) → Names → List Part → List Value → List (List ℕ)
 part_texts show names [] vs = []
 part_texts show names (p ∷ parts) [] = []
-part_texts show names (p ∷ parts) (v ∷ vs) = (name_text names p.name ++ (codes " " ++ show p.sort v)) ∷ part_texts show names parts vs
+part_texts show names (p ∷ parts) (v ∷ vs) = part_text show names p v ∷ part_texts show names parts vs
 
 abbrev pub alternative_text : (TypeId → Value → List ℕ) → Names → Option Part → Value → List ℕ
 alternative_text show names None v = []
@@ -46,7 +57,7 @@ alternative_text show names (Some p) v = name_text names p.name ++ (codes ": " +
 -- the text of a value of a type, where those of the types that it refers to are given; nothing where it is no value of it
 abbrev pub text_of_sort : (TypeId → Value → List ℕ) → Names → Option Sort → Value-F Value → List ℕ
 text_of_sort show names (Some (Sorts.Int lo hi)) (Open.Int z) = signed_decimal z
-text_of_sort show names (Some Sorts.Bool) (Open.Bool b) = if b then codes "TRUE" else codes "FALSE"
+text_of_sort show names (Some Sorts.Bool) (Open.Bool b) = truth_text b
 text_of_sort show names (Some (Sorts.Enumerated ids numbers)) (Open.Enumerated k) = enumerator_text names (slice_get ids k)
 text_of_sort show names (Some (Sorts.Sequence parts)) (Open.Sequence vs) = braced (part_texts show names parts vs)
 text_of_sort show names (Some (Sorts.Choice parts)) (Open.Choice k v) = alternative_text show names (slice_get parts k) v

@@ -4,17 +4,18 @@
 ghost use Rattle.std.specs.Prelude.{◌≡◌};
 ghost use Rattle.og_value.specs.declared.ValueError.TheVariants.{NoMemory as OutOfMemory};
 
-
 mod forms;
 mod membership;
 mod parts;
 mod read;
 mod tokens;
 mod values;
+mod write;
 
 pub use membership::fits;
 use og_names::NoMemory;
 pub use read::{ReadValue, read_value};
+pub use write::write_value;
 use std::alloc::{AllocError, AllocFailed};
 
 /// Why a text gives no value: the longest text of a value at its place reads as none of the type, or there is none; or memory
