@@ -1,0 +1,14 @@
+pub mod Runs
+pub mod Steps
+pub mod Numbers
+pub mod Places
+pub mod Turns
+pub mod Fronts
+pub mod Spelt
+pub mod Exact
+pub mod Sound
+pub mod Longest
+pub mod Means
+pub mod Told
+pub mod Within
+pub mod Written

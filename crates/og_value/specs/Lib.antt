@@ -1,0 +1,6 @@
+pub mod Bytes
+pub mod Forms
+pub mod Reads
+pub mod Shows
+pub mod Scans
+pub mod Answers
