@@ -1,0 +1,16 @@
+//! Modules of ASN.1 (X.680): their trees.
+#![tactic(auto)]
+
+pub mod grammar;
+pub mod kind;
+mod left;
+mod many;
+pub mod part;
+mod run;
+mod syntax;
+
+pub use syntax::{
+    AssignmentTree, BaseTree, CompTree, EnumTree, ExportsTree, FractionTree, ImportTree,
+    ImportsTree, ModuleTree, Name, OfTree, PresenceTree, RunTree, SignedTree, SizeTree, SymbolTree,
+    TagMode, TagTree, Tagging, TaggingTree, TypeTree, ValueNode, ValueTree,
+};
