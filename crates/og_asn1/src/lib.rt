@@ -8,6 +8,7 @@ mod many;
 pub mod part;
 mod run;
 mod syntax;
+mod value;
 
 pub use syntax::{
     AssignmentTree, BaseTree, CompTree, EnumTree, ExportsTree, FractionTree, ImportTree,
