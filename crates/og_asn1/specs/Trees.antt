@@ -143,6 +143,10 @@ abbrev pub or_none : {X : Type 0} → Option (List X) → List X
 or_none None = []
 or_none (Some xs) = xs
 
+-- [ comp { "," comp } ]
+abbrev pub some_comps_at : Take TypeTree → Take (List CompTree)
+some_comps_at inside rest = let comps = maybe (comps_at inside) rest in (or_none comps.0, comps.1)
+
 -- "(" any ")" | SIZE "(" any ")"
 unfoldable pub size_at : Take SizeTree
 size_at rest =
@@ -161,7 +165,7 @@ of_at inside rest =
 unfoldable pub sequence_at : Take TypeTree → Take BaseTree
 sequence_at inside rest =
     let start = after rest in
-    if choice_in rest == 0 then (let comps = maybe (comps_at inside) (behind start) in (Sequence (or_none comps.0), behind comps.1))
+    if choice_in rest == 0 then (let comps = some_comps_at inside (behind start) in (Sequence comps.0, behind comps.1))
     else (let of = of_at inside start in (SequenceOf of.0, of.1))
 
 -- what stands behind SET

@@ -1,6 +1,7 @@
 //! Modules of ASN.1 (X.680): their trees.
 #![tactic(auto)]
 
+mod enumeration;
 pub mod grammar;
 pub mod kind;
 mod left;
@@ -8,6 +9,7 @@ mod many;
 pub mod part;
 mod run;
 mod syntax;
+mod types;
 mod value;
 
 pub use syntax::{
