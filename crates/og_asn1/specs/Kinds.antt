@@ -26,7 +26,7 @@ kind_by_case (b ∷ bs) = if is_ascii_uppercase b then 0 else 1
 unfoldable pub kind_of_name : List ℕ → ℕ
 kind_of_name bytes = if is_asn_name bytes then kind_by_case bytes else 255
 
-abbrev pub kind_of : Token → ℕ
+unfoldable pub kind_of : Token → ℕ
 kind_of (token.Name word) = kind_of_name word.bytes
 kind_of (token.Number n) = 2
 kind_of (token.Text text) = 3

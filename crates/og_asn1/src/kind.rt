@@ -140,6 +140,7 @@ pub const TAGS: u8 = 65;
 pub const TRUE: u8 = 66;
 
 /// The kind of a token. A name that is not spelt like one has none, nor has a token of another language.
+#[tactic(auto, unfolding(crate::specs::Kinds::kind_of))]
 pub fn kind_of(token: &Token) -> u8
     ensures { result ≡ kind_of token.now }
 {

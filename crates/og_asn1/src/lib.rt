@@ -6,12 +6,15 @@ pub mod grammar;
 pub mod kind;
 mod left;
 mod many;
+mod module;
+mod parse;
 pub mod part;
 mod run;
 mod syntax;
 mod types;
 mod value;
 
+pub use parse::parse_modules;
 pub use syntax::{
     AssignmentTree, BaseTree, CompTree, EnumTree, ExportsTree, FractionTree, ImportTree,
     ImportsTree, ModuleTree, Name, OfTree, PresenceTree, RunTree, SignedTree, SizeTree, SymbolTree,
