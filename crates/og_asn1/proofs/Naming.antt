@@ -1,5 +1,5 @@
 -- Names of words.
-use Rattle.std.proofs.Common.{◌≡◌, ℕ, Bool, true, false, List, [], ◌∷◌, refl, sym, ap, subst, arith}
+use Rattle.std.proofs.Common.{◌≡◌, ℕ, Bool, true, false, List, [], ◌∷◌, refl, ap, subst}
 use mathlib.Core.Bool.{Bool-set}
 use Rattle.og_base.specs.declared.Place.{Place}
 use Rattle.og_names.specs.declared.Word.{Word}

@@ -1,13 +1,12 @@
 -- What the reader of the table answers, said of tokens.
-use Rattle.std.proofs.Common.{◌≡◌, ℕ, zero, suc, ◌+◌, ◌<◌, ◌≤◌, Bool, true, false, not, ◌&&◌, List, [], ◌∷◌, ◌++◌, length, map, Option, Some, None, slice_get, refl, sym, ap, ◌∙◌, subst, inl, inr, arith, append_assoc, append-nil}
+use Rattle.std.proofs.Common.{◌≡◌, ℕ, zero, suc, ◌≤◌, Bool, true, false, not, List, [], ◌∷◌, ◌++◌, Option, Some, slice_get, refl, sym, ap, ◌∙◌, subst, inl, inr, arith, append_assoc, append-nil}
 use Rattle.std.specs.Prelude.{◌==◌, if◌then◌else◌}
-use Rattle.std.specs.List.{list_all, AllByRecursion}
+use Rattle.std.specs.List.{list_all}
 use Rattle.std.proofs.lemmas.Bool.{and_parts, and_from, eq-eqb, not-true, false≢true}
 use Rattle.og_base.specs.declared.ModelError.TheVariants.{Broken}
 use Rattle.og_base.specs.declared.Rule.TheVariants.{S1, S2}
 use Rattle.og_base.specs.declared.Violation.{Violation}
 use Rattle.og_lexer.specs.declared.Spanned.{Spanned}
-use Rattle.og_lexer.specs.declared.Token.TheVariants as token
 use Rattle.og_lexer.specs.Texts.{EndsOnce}
 use Rattle.og_grammar.specs.declared.Nesting.{Nesting}
 use Rattle.og_grammar.specs.declared.Nesting.TheVariants.{Keeps}

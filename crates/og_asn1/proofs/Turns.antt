@@ -1,5 +1,5 @@
 -- Turns of a repetition, one after the other, as a loop does them.
-use Rattle.std.proofs.Common.{◌≡◌, ℕ, suc, ◌-◌, ◌+◌, ◌≤◌, ◌<◌, true, false, List, length, refl, sym, ap, ◌∙◌, arith}
+use Rattle.std.proofs.Common.{◌≡◌, ℕ, suc, ◌-◌, ◌+◌, ◌≤◌, ◌<◌, true, false, length, refl, sym, ap, ◌∙◌, arith}
 use Rattle.og_asn1.specs.Reading.{Rest, Take, after, goes_on, turns, onto, passing, passed}
 
 -- what at most `left` more turns make of what was made so far is what is made in all

@@ -1,7 +1,7 @@
 -- The grammar of modules (X.680) is the table GRAMMAR of the source: tokens are a sentence where they have a derivation there, the
 -- end of the file last, and their trees are a function of it. A file may nest 64 deep. Where its tokens are no sentence the first
 -- one is reported that no sentence has there; where they nest deeper before that, the first at which they do.
-use Rattle.std.specs.Prelude.{◌≡◌, ◌⊎◌, ℕ, List, ◌∷◌, length, Some, slice_get}
+use Rattle.std.specs.Prelude.{◌≡◌, ◌⊎◌, ℕ, List, Some, slice_get}
 use Rattle.og_base.specs.declared.Rule.TheVariants.{S1, S2}
 use Rattle.og_base.specs.declared.Violation.{Violation}
 use Rattle.og_base.specs.declared.ModelError.{ModelError}

@@ -1,6 +1,6 @@
 -- The kinds of tokens, of which the grammar of modules speaks (X.680 clause 12): a reference to a type or a module begins with a
 -- capital letter, and one to a value with a small one.
-use Rattle.std.specs.Prelude.{ℕ, ◌+◌, Bool, true, false, List, [], ◌∷◌, map, if◌then◌else◌}
+use Rattle.std.specs.Prelude.{ℕ, ◌+◌, List, [], ◌∷◌, map, if◌then◌else◌}
 use Rattle.std.specs.Char.{is_ascii_uppercase}
 use denote.Enum.Declared.{tag_of}
 use Rattle.og_lexer.specs.contracts.AsnKeyword as keywords

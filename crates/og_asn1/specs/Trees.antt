@@ -1,10 +1,9 @@
 -- The trees of modules as functions of their derivations, by the parts of the table (X.680 clause 13 and those behind it). A type
 -- reads what stands one type further inside by `inside`, and so does a value; a number of choices is enough for it.
-use Rattle.std.specs.Prelude.{ℕ, zero, suc, Bool, true, false, List, [], ◌∷◌, length, Option, Some, None, if◌then◌else◌, ◌==◌}
+use Rattle.std.specs.Prelude.{ℕ, zero, suc, Bool, true, false, List, [], length, Option, Some, None, if◌then◌else◌, ◌==◌}
 use Rattle.og_lexer.specs.declared.Spanned.{Spanned}
 use Rattle.og_asn1.specs.declared.syntax.ModuleTree.{ModuleTree}
 use Rattle.og_asn1.specs.declared.syntax.TaggingTree.{TaggingTree}
-use Rattle.og_asn1.specs.declared.syntax.Tagging.{Tagging}
 use Rattle.og_asn1.specs.declared.syntax.Tagging.TheVariants as tagging
 use Rattle.og_asn1.specs.declared.syntax.ExportsTree.{ExportsTree}
 use Rattle.og_asn1.specs.declared.syntax.ImportsTree.{ImportsTree}
@@ -32,7 +31,7 @@ use Rattle.og_asn1.specs.declared.syntax.ValueNode.{ValueNode}
 use Rattle.og_asn1.specs.declared.syntax.ValueNode as node
 use Rattle.og_asn1.specs.declared.syntax.FractionTree.{FractionTree}
 use Rattle.og_asn1.specs.declared.syntax.RunTree.{RunTree}
-use Rattle.og_asn1.specs.Reading.{Rest, Take, behind, after, choice_in, goes_on, place_in, word_in, number_in, name_in, maybe, more_of, listed, passed, behind_one, tokens_to, run_in, bracket_in}
+use Rattle.og_asn1.specs.Reading.{Take, behind, after, choice_in, place_in, word_in, number_in, name_in, maybe, more_of, listed, passed, behind_one, tokens_to, run_in, bracket_in}
 
 -- ---- values
 

@@ -1,4 +1,4 @@
-use Rattle.std.proofs.Common.{◌≡◌, ℕ, List, Result, Err, sym, ap, subst, ◌∙◌}
+use Rattle.std.proofs.Common.{ℕ, List, Result, Err, ap, subst, ◌∙◌}
 use Rattle.og_grammar.specs.declared.reader.Refusal.{Refusal}
 use Rattle.og_grammar.specs.Answers.{IsFirstWrong, IsFirstTooDeep, IsCutOff}
 use Rattle.og_asn1.specs.declared.grammar.TheConstants.{GRAMMAR, LAST, LIMIT}
