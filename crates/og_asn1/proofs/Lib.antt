@@ -1,0 +1,3 @@
+pub mod Naming
+mod Parsing
+pub mod Turns
