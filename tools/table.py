@@ -4,8 +4,9 @@
     tools/table.py FILE.grammar > table.txt
 
 The file has lines 'kinds K ..', 'last K', 'name N', and then a production a line:
-    part = symbol .. | symbol ..        K: a token    !K: one at which the nesting rises    p: a part    @p: a part that is a scope
-    ?p: an option    *p: a repetition    ~K: nothing, where the next token is not K
+    part = symbol .. | symbol ..        K: a token    +K, ++K: one at which the nesting rises by one, by two    -K: one at which
+    it falls by one    p: a part    @p: a part that is a scope    ?p: an option    *p: a repetition
+    ~K: nothing, where the next token is not K
 Nothing rests on this program: og_grammar's test (is_predictive) verifies every number that it writes. What it refuses is said
 in its own words: two alternatives that begin alike, an option that cannot be told from what follows, a part without a text.
 """
@@ -43,10 +44,17 @@ def main(path):
     optional = ('Maybe', 'Many')
 
     def symbol(s):
-        marks = {'!': ('Raising', kind), '~': ('NotBefore', kind), '@': ('Scope', part), '?': ('Maybe', part), '*': ('Many', part)}
+        marks = {'~': ('NotBefore', kind), '@': ('Scope', part), '?': ('Maybe', part), '*': ('Many', part)}
         if s[0] in marks and len(s) > 1:
             return marks[s[0]][0], marks[s[0]][1][s[1:]]
-        return ('Part', part[s]) if s in part else ('Token', kind[s])
+        return ('Part', part[s]) if s in part else ('Token', kind[s.lstrip('+-')])
+
+    def written(s, what, v):
+        name = f'part::{constant(order[v])}' if what in inner + optional else f'kind::{constant(kinds[v])}'
+        if what == 'Token':
+            ups, downs = len(s) - len(s.lstrip('+')), len(s) - len(s.lstrip('-'))
+            name += f', Rises({ups})' if ups else f', Falls({downs})' if downs else ', Keeps'
+        return f'Symbol::{what}({name}),'
 
     table = [(part[left], [symbol(s) for s in way]) for left, way in rules]
     n = len(order)
@@ -59,7 +67,7 @@ def main(path):
 
     def ahead(symbols, behind):
         for what, v in reversed(symbols):
-            if what in ('Token', 'Raising'):
+            if what == 'Token':
                 behind = 1 << v
             elif what in inner:
                 behind = begins[v] | (behind if empty[v] else 0)
@@ -71,7 +79,7 @@ def main(path):
 
     def lead_of(symbols):
         for what, v in symbols:
-            if what in ('Token', 'Raising'):
+            if what == 'Token':
                 return 1 << v
             if what in inner and lead[v]:
                 return lead[v]
@@ -171,8 +179,7 @@ def main(path):
     print(f'pub const {name}: [Symbol; {sum(len(way) + 1 for _, way in table)}] = [')
     for (p, way), (left, words) in zip(table, rules):
         print(f'    // {left} = {" ".join(words)}')
-        print('    ' + ' '.join([f'Symbol::Rule(part::{constant(order[p])}),'] + [
-            f'Symbol::{what}({"part::" + constant(order[v]) if what in inner + optional else "kind::" + constant(kinds[v])}),' for what, v in way]))
+        print('    ' + ' '.join([f'Symbol::Rule(part::{constant(order[p])}),'] + [written(s, *both) for s, both in zip(words, way)]))
     print('];')
     print(f'pub const {name}_PARTS: [Part; {n}] = [')
     for p in range(n):

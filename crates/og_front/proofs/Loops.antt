@@ -1,7 +1,6 @@
 -- Loops that keep in mind the first of the violations so far.
-use Rattle.std.proofs.Common.{◌≡◌, ℕ, ◌+◌, ◌≤◌, ◌<◌, List, [], ◌∷◌, ◌++◌, length, drop, get_or, Option, refl, sym, ap, ◌∙◌}
+use Rattle.std.proofs.Common.{◌≡◌, ℕ, ◌+◌, ◌≤◌, ◌<◌, List, [], ◌∷◌, ◌++◌, length, get_or, Option, refl, sym, ap, ◌∙◌}
 use Rattle.std.specs.List.{flat_map}
-use Rattle.std.proofs.lemmas.List.{at_drop_more, at_drop_all}
 use Rattle.og_base.specs.declared.Violation.{Violation}
 use Rattle.og_names.proofs.Loops.{Left, left_first, left_more, left_all}
 use Rattle.og_base.specs.Order.{sooner, first_from}

@@ -13,6 +13,7 @@ use Rattle.og_lexer.specs.declared.Mark.TheVariants.{Semicolon, Comma}
 use Rattle.og_lexer.specs.declared.Spanned.{Spanned}
 use Rattle.og_lexer.specs.declared.Token.{Token}
 use Rattle.og_lexer.specs.declared.Token.TheVariants as token
+use Rattle.og_grammar.specs.declared.Nesting.TheVariants.{Keeps}
 use Rattle.og_grammar.specs.declared.Symbol.{Symbol}
 use Rattle.og_grammar.specs.declared.Symbol.TheVariants as symbol
 use Rattle.og_grammar.specs.Sentence.{rules_of, Derives, nothing, chosen, Spells as Derived}
@@ -82,11 +83,11 @@ record Steps (form : Form) (rest : List Symbol) (tokens : List Spanned) (choices
   so : IsSo form first
   goes_on : Derives GRAMMAR rest (kinds_of (behind tokens)) choices
 
-no_token : {k : ℕ} {rest : List Symbol} {choices : List ℕ} → Derives GRAMMAR (symbol.Token k ∷ rest) [] choices → ⊥
+no_token : {k : ℕ} {rest : List Symbol} {choices : List ℕ} → Derives GRAMMAR (symbol.Token k Keeps ∷ rest) [] choices → ⊥
 no_token (chosen _ c way w d) = absurd cc
 
 step_keyword : (k : ℕ) (word : Keyword) → k < 17 → get_or FORMS k fixed.End ≡ fixed.Keyword word → (rest : List Symbol) (tokens : List Spanned) (choices : List ℕ)
-    → Derives GRAMMAR (symbol.Token k ∷ rest) (kinds_of tokens) choices → Steps (ReservedAt word (place_in tokens)) rest tokens choices
+    → Derives GRAMMAR (symbol.Token k Keeps ∷ rest) (kinds_of tokens) choices → Steps (ReservedAt word (place_in tokens)) rest tokens choices
 step_keyword k word lt is rest [] choices d = absurd (no_token d)
 step_keyword k word lt is rest (t ∷ ts) choices d =
     let i = token_is d in
@@ -94,26 +95,26 @@ step_keyword k word lt is rest (t ∷ ts) choices d =
     record { first = t; is = refl; so = (shown, refl); goes_on = i.1 }
 
 step_reserved : (k : ℕ) (word : Keyword) → k < 17 → get_or FORMS k fixed.End ≡ fixed.Keyword word → (rest : List Symbol) (tokens : List Spanned) (choices : List ℕ)
-    → Derives GRAMMAR (symbol.Token k ∷ rest) (kinds_of tokens) choices → Steps (Reserved word) rest tokens choices
+    → Derives GRAMMAR (symbol.Token k Keeps ∷ rest) (kinds_of tokens) choices → Steps (Reserved word) rest tokens choices
 step_reserved k word lt is rest tokens choices d =
     let s = step_keyword k word lt is rest tokens choices d in
     record { first = s.first; is = s.is; so = s.so.0; goes_on = s.goes_on }
 
 step_sign : (k : ℕ) (mark : Mark) → k < 17 → get_or FORMS k fixed.End ≡ fixed.Mark mark → (rest : List Symbol) (tokens : List Spanned) (choices : List ℕ)
-    → Derives GRAMMAR (symbol.Token k ∷ rest) (kinds_of tokens) choices → Steps (Sign mark) rest tokens choices
+    → Derives GRAMMAR (symbol.Token k Keeps ∷ rest) (kinds_of tokens) choices → Steps (Sign mark) rest tokens choices
 step_sign k mark lt is rest [] choices d = absurd (no_token d)
 step_sign k mark lt is rest (t ∷ ts) choices d =
     let i = token_is d in
     let shown : t.token ≡ token.Mark mark = mark_is mark t.token (subst (λ (f : Fixed). is_fixed f t.token ≡ true) is (form_is t.token k (sym i.0) lt)) in
     record { first = t; is = refl; so = shown; goes_on = i.1 }
 
-step_last : (rest : List Symbol) (tokens : List Spanned) (choices : List ℕ) → Derives GRAMMAR (symbol.Token 16 ∷ rest) (kinds_of tokens) choices → Steps Last rest tokens choices
+step_last : (rest : List Symbol) (tokens : List Spanned) (choices : List ℕ) → Derives GRAMMAR (symbol.Token 16 Keeps ∷ rest) (kinds_of tokens) choices → Steps Last rest tokens choices
 step_last rest [] choices d = absurd (no_token d)
 step_last rest (t ∷ ts) choices d =
     let i = token_is d in
     record { first = t; is = refl; so = end_is t.token (form_is t.token 16 (sym i.0) (omega arith)); goes_on = i.1 }
 
-step_name : (rest : List Symbol) (tokens : List Spanned) (choices : List ℕ) → Derives GRAMMAR (symbol.Token 0 ∷ rest) (kinds_of tokens) choices → Steps (Named (name_in tokens)) rest tokens choices
+step_name : (rest : List Symbol) (tokens : List Spanned) (choices : List ℕ) → Derives GRAMMAR (symbol.Token 0 Keeps ∷ rest) (kinds_of tokens) choices → Steps (Named (name_in tokens)) rest tokens choices
 step_name rest [] choices d = absurd (no_token d)
 step_name rest (t ∷ ts) choices d =
     let i = token_is d in

@@ -72,8 +72,8 @@ fn choices_of(alloc: Global, tokens: &[Spanned]) -> Result<Items<u8>, ParseError
 {
     never_deeper();
     let kinds = kinds_of(alloc, tokens)?;
-    let kinds = kinds.as_slice();
-    match derive(alloc, &GRAMMAR, &PARTS, LAST, kinds.len(), kinds) {
+    // The nesting never rises in this grammar.
+    match derive(alloc, &GRAMMAR, &PARTS, LAST, 0, kinds.as_slice()) {
         Ok(choices) => Ok(choices),
         Err(Refusal::NoMemory(met)) => Err(ParseError::NoMemory(NoMemory::from(met))),
         Err(Refusal::TooDeep(_)) => unreachable!(),

@@ -1,6 +1,7 @@
 -- What a step before a token keeps: before that token, the derivations are the same.
 use Rattle.std.proofs.Common.{◌≡◌, ℕ, suc, ◌+◌, ◌≤◌, Bool, true, false, cond, List, [], ◌∷◌, ◌++◌, inl, inr, refl, sym, ap, subst, ◌∙◌, append_assoc}
 use Rattle.og_grammar.specs.declared.Symbol.{Symbol}
+use Rattle.og_grammar.specs.declared.Nesting.TheVariants.{Keeps}
 use Rattle.og_grammar.specs.declared.Symbol.TheVariants.{Token}
 use Rattle.og_grammar.specs.declared.Due.{Due}
 use Rattle.og_grammar.specs.declared.Due.TheVariants.{Expect, Restore}
@@ -59,10 +60,10 @@ pub due_entered : (count : ℕ) (s : Symbol) (way : List Symbol) (due : List Due
 due_entered count s way due = due_expected way (cond (is_scope s) (Restore count ∷ due) due) ∙ ap (λ (x : List Symbol). way ++ x) (due_closed (is_scope s) count due)
 
 -- what was under a thing that is due stays under what takes its place
-pub under : (last : ℕ) (d : Due) (due : List Due) (front : List Due) → (d ≡ Expect (Token last) → ⊥) → IsBottomed last (d ∷ due) → IsBottomed last (front ++ due)
+pub under : (last : ℕ) (d : Due) (due : List Due) (front : List Due) → (d ≡ Expect (Token last Keeps) → ⊥) → IsBottomed last (d ∷ due) → IsBottomed last (front ++ due)
 under last d due front other (inl e) = absurd cc
 under last d due front other (inr ([], e)) = absurd (other (head_is e))
-under last d due front other (inr (x ∷ f, e)) = inr (front ++ f, ap (λ (z : List Due). front ++ z) (tail_is e) ∙ sym (append_assoc front f (Expect (Token last) ∷ [])))
+under last d due front other (inr (x ∷ f, e)) = inr (front ++ f, ap (λ (z : List Due). front ++ z) (tail_is e) ∙ sym (append_assoc front f (Expect (Token last Keeps) ∷ [])))
 
 abbrev fronted : List Symbol → List Due → List Due
 fronted ss due = expected ss due
@@ -71,7 +72,7 @@ expected_front : (ss : List Symbol) (due : List Due) → expected ss due ≡ exp
 expected_front [] due = refl
 expected_front (s ∷ ss) due = ap (λ (x : List Due). Expect s ∷ x) (expected_front ss due)
 
-pub bottom_entered : (last count : ℕ) (s : Symbol) (way : List Symbol) (due : List Due) → (Expect s ≡ Expect (Token last) → ⊥) → IsBottomed last (Expect s ∷ due) → IsBottomed last (entered count s way due)
+pub bottom_entered : (last count : ℕ) (s : Symbol) (way : List Symbol) (due : List Due) → (Expect s ≡ Expect (Token last Keeps) → ⊥) → IsBottomed last (Expect s ∷ due) → IsBottomed last (entered count s way due)
 bottom_entered last count s way due other b = by (is_scope s)
   where
     by : (scope : Bool) → IsBottomed last (expected way (cond scope (Restore count ∷ due) due))

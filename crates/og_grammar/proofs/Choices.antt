@@ -7,11 +7,11 @@ use Rattle.std.proofs.lemmas.Option.{slice_get-map, slice_get_past}
 use Rattle.std.proofs.lemmas.List.Quantifiers.{position-Some}
 use Rattle.std.proofs.Math.Nat.{mod-eq_of_lt}
 use Rattle.og_grammar.specs.declared.Symbol.{Symbol}
-use Rattle.og_grammar.specs.declared.Symbol.TheVariants.{Rule, Token, Raising, Scope, Maybe, Many, NotBefore}
+use Rattle.og_grammar.specs.declared.Symbol.TheVariants.{Rule, Token, Scope, Maybe, Many, NotBefore}
 use Rattle.og_grammar.specs.declared.Symbol.TheVariants as symbol
 use Rattle.og_grammar.specs.declared.Part.{Part}
 use Rattle.og_grammar.specs.declared.rows.Row.{Row}
-use Rattle.og_grammar.specs.Sentence.{rules_of, ways, Derives, nothing, token, raising, passes, chosen}
+use Rattle.og_grammar.specs.Sentence.{rules_of, ways, Derives, nothing, token, passes, chosen}
 use Rattle.og_grammar.specs.Predictive.{has, part_at, ahead, are_apart, are_right_rules, is_right_rule}
 use Rattle.og_grammar.specs.Rows.{row_of, rows_of, rows_below, place_in, row_choice, choice_of, symbols_of, row_at, way_of}
 use Rattle.og_grammar.proofs.Known.{and_first, and_second}
@@ -140,8 +140,7 @@ leaves_choice (Scope p) = true
 leaves_choice (Maybe p) = true
 leaves_choice (Many p) = true
 leaves_choice (Rule p) = false
-leaves_choice (Token k) = false
-leaves_choice (Raising k) = false
+leaves_choice (Token k nesting) = false
 leaves_choice (NotBefore k) = false
 
 small_mod : (c n : ℕ) → c < n → n ≤ 256 → c % 256 ≡ c
@@ -221,8 +220,7 @@ bool_way false p more c e = subst (λ (n : ℕ). slice_get ([] ∷ more ∷ []) 
 pub taken_way : (table : List Symbol) (parts : List Part) (last : ℕ) → IsSound table parts last → (s : Symbol) (c k : ℕ) → choice_of (rows table parts) parts s k ≡ Some c
     → slice_get (ways table s) c ≡ Some (way_of (rows table parts) s c)
 taken_way table parts last sound (Rule p) c k h = absurd cc
-taken_way table parts last sound (Token t) c k h = absurd cc
-taken_way table parts last sound (Raising t) c k h = absurd cc
+taken_way table parts last sound (Token t nesting) c k h = absurd cc
 taken_way table parts last sound (NotBefore t) c k h = absurd cc
 taken_way table parts last sound (symbol.Part p) c k h = taken_rule table parts last sound p c k h
 taken_way table parts last sound (Scope p) c k h = taken_rule table parts last sound p c k h
@@ -261,10 +259,8 @@ by_option table parts right begins p more rest k ts is filled lacks (suc (suc c)
 pub forced : (table : List Symbol) (parts : List Part) (last : ℕ) → IsSound table parts last → {symbols : List Symbol} {tokens cs : List ℕ} → Derives table symbols tokens cs → (s : Symbol) (rest : List Symbol) (k : ℕ) (ts : List ℕ)
     → symbols ≡ s ∷ rest → tokens ≡ k ∷ ts → leaves_choice s ≡ true → MayStand table parts s rest → IsForced table parts s rest k ts cs
 forced table parts last sound nothing s rest k ts e f l m = absurd cc
-forced table parts last sound (token {k = j} d) s rest k ts e f l m =
-    let clash : leaves_choice (Token j) ≡ true = subst (λ (x : Symbol). leaves_choice x ≡ true) (sym (head_is e)) l in absurd cc
-forced table parts last sound (raising {k = j} d) s rest k ts e f l m =
-    let clash : leaves_choice (Raising j) ≡ true = subst (λ (x : Symbol). leaves_choice x ≡ true) (sym (head_is e)) l in absurd cc
+forced table parts last sound (token {k = j} {nesting = nesting} d) s rest k ts e f l m =
+    let clash : leaves_choice (Token j nesting) ≡ true = subst (λ (x : Symbol). leaves_choice x ≡ true) (sym (head_is e)) l in absurd cc
 forced table parts last sound (passes {k = j} apart d) s rest k ts e f l m =
     let clash : leaves_choice (NotBefore j) ≡ true = subst (λ (x : Symbol). leaves_choice x ≡ true) (sym (head_is e)) l in absurd cc
 forced table parts last sound (chosen {symbols = symbols} {tokens = tokens} {choices = cs} s' c way w d) s rest k ts e f l m =
@@ -274,8 +270,7 @@ forced table parts last sound (chosen {symbols = symbols} {tokens = tokens} {cho
   where
     by : (s : Symbol) → slice_get (ways table s) c ≡ Some way → leaves_choice s ≡ true → MayStand table parts s rest → Derives table (way ++ rest) (k ∷ ts) cs → IsForced table parts s rest k ts (c ∷ cs)
     by (Rule p) w l m d = absurd cc
-    by (Token t) w l m d = absurd cc
-    by (Raising t) w l m d = absurd cc
+    by (Token t nesting) w l m d = absurd cc
     by (NotBefore t) w l m d = absurd cc
     by (symbol.Part p) w l m d =
         let there = leads table parts sound.fit.right d way rest k ts (part_at parts p).follows refl refl (λ cs' d'. m.leads k ts cs' d') in

@@ -2,7 +2,8 @@
 use Rattle.std.proofs.Common.{◌≡◌, ℕ, zero, suc, ◌+◌, ◌<◌, Bool, true, false, cond, not, ◌&&◌, ◌||◌, List, [], ◌∷◌, ◌++◌, length, Some, slice_get, inl, inr, refl, sym, ap, subst, ◌∙◌, arith}
 use Rattle.std.specs.Prelude.{bit_or}
 use Rattle.og_grammar.specs.declared.Symbol.{Symbol}
-use Rattle.og_grammar.specs.declared.Symbol.TheVariants.{Rule, Token, Raising, Scope, Maybe, Many, NotBefore}
+use Rattle.og_grammar.specs.declared.Nesting.TheVariants.{Keeps}
+use Rattle.og_grammar.specs.declared.Symbol.TheVariants.{Rule, Token, Scope, Maybe, Many, NotBefore}
 use Rattle.og_grammar.specs.declared.Symbol.TheVariants as symbol
 use Rattle.og_grammar.specs.declared.Due.{Due}
 use Rattle.og_grammar.specs.declared.Due.TheVariants.{Expect, Restore}
@@ -54,8 +55,7 @@ part_lighter parts part way due r =
 pub lighter : (table : List Symbol) (parts : List Part) (last : ℕ) → IsSound table parts last → (s : Symbol) (c k count : ℕ) (way : List Symbol) (due : List Due) → leaves_choice s ≡ true
     → slice_get (ways table s) c ≡ Some way → MayStand table parts s (symbols_due due) → weight_due parts (entered count s way due) < weight_due parts (Expect s ∷ due)
 lighter table parts last sound (Rule p) c k count way due l w m = absurd cc
-lighter table parts last sound (Token t) c k count way due l w m = absurd cc
-lighter table parts last sound (Raising t) c k count way due l w m = absurd cc
+lighter table parts last sound (Token t nesting) c k count way due l w m = absurd cc
 lighter table parts last sound (NotBefore t) c k count way due l w m = absurd cc
 lighter table parts last sound (symbol.Part p) c k count way due l w m = part_lighter parts (part_at parts p) way due (sound.fit.right p c way w)
 lighter table parts last sound (Scope p) c k count way due l w m =
@@ -114,8 +114,7 @@ rule_ready table parts last sound p c way rest w m line =
 pub ready : (table : List Symbol) (parts : List Part) (last : ℕ) → IsSound table parts last → (s : Symbol) (c : ℕ) (way rest : List Symbol) → leaves_choice s ≡ true → slice_get (ways table s) c ≡ Some way
     → MayStand table parts s rest → AreInLine table parts rest → IsReady table parts (way ++ rest)
 ready table parts last sound (Rule p) c way rest l w m line = absurd cc
-ready table parts last sound (Token t) c way rest l w m line = absurd cc
-ready table parts last sound (Raising t) c way rest l w m line = absurd cc
+ready table parts last sound (Token t nesting) c way rest l w m line = absurd cc
 ready table parts last sound (NotBefore t) c way rest l w m line = absurd cc
 ready table parts last sound (symbol.Part p) c way rest l w m line = rule_ready table parts last sound p c way rest w m line
 ready table parts last sound (Scope p) c way rest l w m line = rule_ready table parts last sound p c way rest w m line
@@ -136,8 +135,8 @@ ready table parts last sound (Many p) (suc zero) way rest l w m line =
     (record { line = (record { leads = follow; goes = again }, (m, line)); goes = part_goes table parts sound.fit p (Many p ∷ rest) m.there again })
 ready table parts last sound (Many p) (suc (suc c)) way rest l w m line = absurd cc
 
-no_token : (s : Symbol) (last : ℕ) → leaves_choice s ≡ true → Expect s ≡ Expect (Token last) → ⊥
-no_token s last l e = let same : s ≡ Token last = cc in let clash : leaves_choice (Token last) ≡ true = subst (λ (x : Symbol). leaves_choice x ≡ true) same l in absurd cc
+no_token : (s : Symbol) (last : ℕ) → leaves_choice s ≡ true → Expect s ≡ Expect (Token last Keeps) → ⊥
+no_token s last l e = let same : s ≡ Token last Keeps = cc in let clash : leaves_choice (Token last Keeps) ≡ true = subst (λ (x : Symbol). leaves_choice x ≡ true) same l in absurd cc
 
 pub entering : (table : List Symbol) (parts : List Part) (last : ℕ) → IsSound table parts last → (s : Symbol) (c k count : ℕ) (due : List Due) → leaves_choice s ≡ true → choice_of (rows table parts) parts s k ≡ Some c
     → MayStand table parts s (symbols_due due) → AreInLine table parts (symbols_due due) → IsBottomed last (Expect s ∷ due)

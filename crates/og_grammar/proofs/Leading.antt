@@ -1,12 +1,13 @@
 -- What begins where a derivation begins: the kinds ahead of a list of symbols.
-use Rattle.std.proofs.Common.{◌≡◌, ◌≢◌, ℕ, zero, suc, ◌^◌, Bool, true, false, cond, not, ◌&&◌, ◌||◌, List, [], ◌∷◌, ◌++◌, Option, Some, slice_get, ◌⊎◌, inl, inr, nat_eq, refl, sym, ap, subst, ◌∙◌, append_assoc}
+use Rattle.std.proofs.Common.{◌≡◌, ◌≢◌, ℕ, zero, suc, ◌^◌, Bool, true, false, cond, not, ◌&&◌, ◌||◌, List, [], ◌∷◌, ◌++◌, Some, slice_get, ◌⊎◌, inl, inr, nat_eq, refl, sym, ap, subst, ◌∙◌, append_assoc}
 use Rattle.std.specs.Prelude.{bit_or}
 use Rattle.og_grammar.specs.declared.Symbol.{Symbol}
-use Rattle.og_grammar.specs.declared.Symbol.TheVariants.{Rule, Token, Raising, Scope, Maybe, Many, NotBefore}
+use Rattle.og_grammar.specs.declared.Symbol.TheVariants.{Rule, Token, Scope, Maybe, Many, NotBefore}
 use Rattle.og_grammar.specs.declared.Symbol.TheVariants as symbol
 use Rattle.og_grammar.specs.declared.Part.{Part}
-use Rattle.og_grammar.specs.Sentence.{rules_of, ways, IsNotFirst, Derives, nothing, token, raising, passes, chosen}
+use Rattle.og_grammar.specs.Sentence.{rules_of, ways, IsNotFirst, Derives, nothing, token, passes, chosen}
 use Rattle.og_grammar.specs.Predictive.{has, without, is_within, part_at, is_empty, are_empty, ahead_of, ahead, is_right_rule}
+pub use Rattle.og_grammar.proofs.Known.{option, some_is}
 use Rattle.og_grammar.proofs.Known.{and_intro, and_first, and_second}
 use Rattle.og_grammar.proofs.Sets.{is_same, not_same, never_in, has-or_left, has-or_right, in_either, none, within_has, has-pow, has-without, without_has}
 
@@ -25,8 +26,7 @@ or_none false begins behind k h = elim (in_either begins 0 k h) [ inl a ↦ inl 
 -- of one symbol
 split_of : (parts : List Part) (s : Symbol) (behind k : ℕ) → has (ahead_of parts s behind) k ≡ true → (has (ahead_of parts s 0) k ≡ true) ⊎ ((is_empty parts s ≡ true) × (has behind k ≡ true))
 split_of parts (Rule p) behind k h = inl h
-split_of parts (Token t) behind k h = inl h
-split_of parts (Raising t) behind k h = inl h
+split_of parts (Token t nesting) behind k h = inl h
 split_of parts (symbol.Part p) behind k h =
     elim (or_none (part_at parts p).empty (part_at parts p).begins behind k h)
     [ inl a ↦ inl (has-or_left (part_at parts p).begins (cond (part_at parts p).empty 0 0) k a) | inr b ↦ inr b ]
@@ -57,8 +57,7 @@ without_grows a b t k true e g h =
 
 grows_of : (parts : List Part) (s : Symbol) (a b k : ℕ) → (has a k ≡ true → has b k ≡ true) → has (ahead_of parts s a) k ≡ true → has (ahead_of parts s b) k ≡ true
 grows_of parts (Rule p) a b k g h = h
-grows_of parts (Token t) a b k g h = h
-grows_of parts (Raising t) a b k g h = h
+grows_of parts (Token t nesting) a b k g h = h
 grows_of parts (symbol.Part p) a b k g h =
     or_grows (part_at parts p).begins (cond (part_at parts p).empty a 0) (cond (part_at parts p).empty b 0) k (cond_grows (part_at parts p).empty a b k g) h
 grows_of parts (Scope p) a b k g h =
@@ -84,12 +83,6 @@ split parts (s ∷ ss) behind k h =
     ]
 
 -- ---- what begins where a derivation begins
-
-abbrev pub option : {A : Type 0} → A → Option A
-option x = Some x
-
-pub some_is : {A : Type 0} (x y : A) → option x ≡ option y → x ≡ y
-some_is x y e = cc
 
 pub head_is : {A : Type 0} {x y : A} {xs ys : List A} → x ∷ xs ≡ y ∷ ys → x ≡ y
 head_is e = cc
@@ -122,8 +115,7 @@ right_split parts part way behind k right h =
 way_ahead : (table : List Symbol) (parts : List Part) → AreRight table parts → (s : Symbol) (c : ℕ) (way : List Symbol) (behind k : ℕ) → slice_get (ways table s) c ≡ Some way
     → has (ahead parts way behind) k ≡ true → has (ahead_of parts s behind) k ≡ true
 way_ahead table parts right (Rule p) c way behind k w h = absurd cc
-way_ahead table parts right (Token t) c way behind k w h = absurd cc
-way_ahead table parts right (Raising t) c way behind k w h = absurd cc
+way_ahead table parts right (Token t nesting) c way behind k w h = absurd cc
 way_ahead table parts right (NotBefore t) c way behind k w h = absurd cc
 way_ahead table parts right (symbol.Part p) c way behind k w h = right_split parts (part_at parts p) way behind k (right p c way w) h
 way_ahead table parts right (Scope p) c way behind k w h = right_split parts (part_at parts p) way behind k (right p c way w) h
@@ -150,12 +142,8 @@ pub leads : (table : List Symbol) (parts : List Part) → AreRight table parts �
 leads table parts right {symbols = symbols} {tokens = tokens} {choices = choices} d [] rest k ts behind e f h =
     h choices (subst (λ (x : List ℕ). Derives table rest x choices) f (subst (λ (x : List Symbol). Derives table x tokens choices) e d))
 leads table parts right nothing (s ∷ front) rest k ts behind e f h = absurd cc
-leads table parts right (token {k = j} d) (s ∷ front) rest k ts behind e f h =
-    let first : Token j ≡ s = head_is e in
-    let same : j ≡ k = number_is f in
-    subst (λ (x : Symbol). has (ahead_of parts x (ahead parts front behind)) k ≡ true) first (subst (λ (x : ℕ). has (2 ^ j) x ≡ true) same (has-pow j))
-leads table parts right (raising {k = j} d) (s ∷ front) rest k ts behind e f h =
-    let first : Raising j ≡ s = head_is e in
+leads table parts right (token {k = j} {nesting = nesting} d) (s ∷ front) rest k ts behind e f h =
+    let first : Token j nesting ≡ s = head_is e in
     let same : j ≡ k = number_is f in
     subst (λ (x : Symbol). has (ahead_of parts x (ahead parts front behind)) k ≡ true) first (subst (λ (x : ℕ). has (2 ^ j) x ≡ true) same (has-pow j))
 leads table parts right (passes {k = j} apart d) (s ∷ front) rest k ts behind e f h =

@@ -2,10 +2,10 @@
 use Rattle.std.proofs.Common.{◌≡◌, ◌≢◌, ℕ, zero, suc, ◌<◌, ◌^◌, Bool, true, false, cond, not, ◌&&◌, ◌||◌, List, [], ◌∷◌, ◌++◌, length, Some, slice_get, ◌⊎◌, inl, inr, nat_eq, nat_lt, refl, sym, ap, subst, ◌∙◌, arith}
 use Rattle.std.proofs.lemmas.Bool.Decides.{nat_tests}
 use Rattle.og_grammar.specs.declared.Symbol.{Symbol}
-use Rattle.og_grammar.specs.declared.Symbol.TheVariants.{Rule, Token, Raising, Scope, Maybe, Many, NotBefore}
+use Rattle.og_grammar.specs.declared.Symbol.TheVariants.{Rule, Token, Scope, Maybe, Many, NotBefore}
 use Rattle.og_grammar.specs.declared.Symbol.TheVariants as symbol
 use Rattle.og_grammar.specs.declared.Part.{Part}
-use Rattle.og_grammar.specs.Sentence.{rules_of, IsNotFirst, Derives, token, raising, passes, chosen}
+use Rattle.og_grammar.specs.Sentence.{rules_of, IsNotFirst, Derives, token, passes, chosen}
 use Rattle.og_grammar.specs.Predictive.{has, is_within, are_apart, part_at, bars_of, lead_of, is_clear, are_placed, may_follow, ahead, is_ranked, are_ranked, is_right_rule, are_empty}
 pub use Rattle.og_grammar.specs.Standing.{Avoids, Goes}
 use Rattle.og_grammar.proofs.Known.{and_first, and_second}
@@ -85,8 +85,7 @@ list_gives table parts n go (s ∷ ss) rest follows bars ts cs ranked placed d h
     by : (s : Symbol) → is_ranked parts n s ≡ true → (ts' cs' : List ℕ) → Derives table (ss ++ rest) ts' cs' → Begun (lead_of parts ss) ts' ts → Avoids (bars_of parts s) ts'
         → Gives table (s ∷ (ss ++ rest)) (lead_of parts (s ∷ ss)) ts
     by (Rule p) r ts' cs' d' b a = absurd cc
-    by (Token k) r ts' cs' d' b a = (k ∷ ts', cs', token d', inr (k, ts', refl, refl))
-    by (Raising k) r ts' cs' d' b a = (k ∷ ts', cs', raising d', inr (k, ts', refl, refl))
+    by (Token k nesting) r ts' cs' d' b a = (k ∷ ts', cs', token d', inr (k, ts', refl, refl))
     by (symbol.Part p) r ts' cs' d' b a =
         let g = go p (ss ++ rest) ts' cs' (lt_of _ _ (and_first _ _ r)) (lt_of _ _ (and_second (nat_lt (part_at parts p).rank n) _ r)) d' a in
         (g.0, g.1, g.2, begun_both (lead_of parts ss) (part_at parts p).lead g.0 ts' ts (nat_eq (part_at parts p).lead 0) refl g.3 b)

@@ -2,7 +2,8 @@
 use Rattle.std.proofs.Common.{◌≡◌, ℕ, ◌<◌, true, List, [], ◌∷◌, ◌++◌, reverse, inr, refl, sym, ap, subst, ◌∙◌, append_assoc, arith}
 use Rattle.std.proofs.lemmas.List.{append-nil}
 use Rattle.og_grammar.specs.declared.Symbol.{Symbol}
-use Rattle.og_grammar.specs.declared.Symbol.TheVariants.{Token, Raising}
+use Rattle.og_grammar.specs.declared.Nesting.TheVariants.{Keeps}
+use Rattle.og_grammar.specs.declared.Symbol.TheVariants.{Token}
 use Rattle.og_grammar.specs.declared.Symbol.TheVariants as symbol
 use Rattle.og_grammar.specs.declared.Due.{Due}
 use Rattle.og_grammar.specs.declared.Due.TheVariants.{Expect}
@@ -73,23 +74,14 @@ module _ (table : List Symbol) (parts : List Part) (last : ℕ) (known : is_pred
   pub reaches_by : (by : Step) → (by ≡ step.On → ⊥) → LeadsTo table parts last k first (reverse old.due) old.count old.choices → StepsTo old new by (stepped all parts k old.count (reverse old.due))
       → Reaches table parts last k first new by
   reaches_by step.On other l s = other refl
-  reaches_by step.Plain other l s =
-      let t = step_tells step.Plain l s in
+  reaches_by (step.Met nesting) other l s =
+      let t = step_tells (step.Met nesting) l s in
       record {
         made = l.made;
-        is = choices_is step.Plain s ∙ ap (λ (x : List ℕ). old.choices ++ x) t.2 ∙ append-nil old.choices ∙ l.is;
+        is = choices_is (step.Met nesting) s ∙ ap (λ (x : List ℕ). old.choices ++ x) t.2 ∙ append-nil old.choices ∙ l.is;
         advances =
-            subst (λ (d : List Due). Advances table parts last k (reverse first.due) first.count d new.count l.made) (t.0 ∙ ap (λ (d : List Due). Expect (Token k) ∷ d) (sym (due_is step.Plain s)))
-            (subst (λ (n : ℕ). Advances table parts last k (reverse first.due) first.count (reverse old.due) n l.made) (sym (count_is step.Plain s ∙ t.1)) l.advances);
-      }
-  reaches_by step.Deeper other l s =
-      let t = step_tells step.Deeper l s in
-      record {
-        made = l.made;
-        is = choices_is step.Deeper s ∙ ap (λ (x : List ℕ). old.choices ++ x) t.2 ∙ append-nil old.choices ∙ l.is;
-        advances =
-            subst (λ (d : List Due). Advances table parts last k (reverse first.due) first.count d new.count l.made) (t.0 ∙ ap (λ (d : List Due). Expect (Raising k) ∷ d) (sym (due_is step.Deeper s)))
-            (subst (λ (n : ℕ). Advances table parts last k (reverse first.due) first.count (reverse old.due) n l.made) (sym (count_is step.Deeper s ∙ t.1)) l.advances);
+            subst (λ (d : List Due). Advances table parts last k (reverse first.due) first.count d new.count l.made) (t.0 ∙ ap (λ (d : List Due). Expect (Token k nesting) ∷ d) (sym (due_is (step.Met nesting) s)))
+            (subst (λ (n : ℕ). Advances table parts last k (reverse first.due) first.count (reverse old.due) n l.made) (sym (count_is (step.Met nesting) s ∙ t.1)) l.advances);
       }
   reaches_by step.Wrong other l s =
       let t = step_tells step.Wrong l s in
@@ -100,7 +92,7 @@ module _ (table : List Symbol) (parts : List Part) (last : ℕ) (known : is_pred
 pub first_stands : (table : List Symbol) (parts : List Part) (last limit : ℕ) → is_predictive table parts last ≡ true → Stands table parts last limit [] (expected (whole last) []) 0 []
 first_stands table parts last limit known =
     let sound = sound_of table parts last known in
-    let end : Goes table (Token last ∷ []) (part_at parts 0).bars = (last ∷ [], [], token nothing, sound.bars) in
+    let end : Goes table (Token last Keeps ∷ []) (part_at parts 0).bars = (last ∷ [], [], token nothing, sound.bars) in
     record {
       after = [];
       long = refl;
@@ -110,7 +102,7 @@ first_stands table parts last limit known =
       nests = λ cs counts n. n;
       ready = record {
         line = (record { leads = λ k ts cs d. subst (λ (x : ℕ). has (part_at parts 0).follows x ≡ true) (token_is d).0 sound.follows; goes = end }, (tt, tt));
-        goes = part_goes table parts sound.fit 0 (Token last ∷ []) sound.first end;
+        goes = part_goes table parts sound.fit 0 (Token last Keeps ∷ []) sound.first end;
       };
       bottom = inr (Expect (symbol.Part 0) ∷ [], refl);
       count_low = omega arith;

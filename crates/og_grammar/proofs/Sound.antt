@@ -3,7 +3,7 @@ use Rattle.std.proofs.Common.{◌≡◌, ◌≢◌, ℕ, zero, suc, ◌<◌, ◌
 use Rattle.std.specs.Prelude.{bit_or}
 use Rattle.std.proofs.lemmas.Bool.Decides.{nat_tests}
 use Rattle.og_grammar.specs.declared.Symbol.{Symbol}
-use Rattle.og_grammar.specs.declared.Symbol.TheVariants.{Rule, Token, Raising, Scope, Maybe, Many, NotBefore}
+use Rattle.og_grammar.specs.declared.Symbol.TheVariants.{Rule, Token, Scope, Maybe, Many, NotBefore}
 use Rattle.og_grammar.specs.declared.Symbol.TheVariants as symbol
 use Rattle.og_grammar.specs.declared.Part.{Part}
 use Rattle.og_grammar.specs.Sentence.{body_of, rules_of}
@@ -42,8 +42,7 @@ record IsIn (n : ℕ) (p : ℕ) (way : List Symbol) : Type 0 where
 inner_body : (n : ℕ) (table : List Symbol) → are_known n table ≡ true → are_inner n (body_of table) ≡ true
 inner_body n [] h = refl
 inner_body n (Rule p ∷ table) h = refl
-inner_body n (Token k ∷ table) h = and_intro _ _ (and_first _ (are_known n table) h) (inner_body n table (and_second (is_known n (Token k)) _ h))
-inner_body n (Raising k ∷ table) h = and_intro _ _ (and_first _ (are_known n table) h) (inner_body n table (and_second (is_known n (Raising k)) _ h))
+inner_body n (Token k nesting ∷ table) h = and_intro _ _ (and_first _ (are_known n table) h) (inner_body n table (and_second (is_known n (Token k nesting)) _ h))
 inner_body n (symbol.Part p ∷ table) h = and_intro _ _ (and_first _ (are_known n table) h) (inner_body n table (and_second (is_known n (symbol.Part p)) _ h))
 inner_body n (Scope p ∷ table) h = and_intro _ _ (and_first _ (are_known n table) h) (inner_body n table (and_second (is_known n (Scope p)) _ h))
 inner_body n (Maybe p ∷ table) h = and_intro _ _ (and_first _ (are_known n table) h) (inner_body n table (and_second (is_known n (Maybe p)) _ h))
@@ -62,8 +61,7 @@ named_by n p q table (suc c) way known c' go true e w all = all c w
 is_in : (n p : ℕ) (table : List Symbol) → are_known n table ≡ true → (c : ℕ) (way : List Symbol) → slice_get (rules_of p table) c ≡ Some way → IsIn n p way
 is_in n p [] h c way w = absurd cc
 is_in n p (Rule q ∷ table) h c way w = named_by n p q table c way h c (λ z. is_in n p table (and_second (is_known n (Rule q)) _ h) c way z) (nat_eq q p) refl w (λ d z. is_in n p table (and_second (is_known n (Rule q)) _ h) d way z)
-is_in n p (Token k ∷ table) h c way w = is_in n p table (and_second (is_known n (Token k)) _ h) c way w
-is_in n p (Raising k ∷ table) h c way w = is_in n p table (and_second (is_known n (Raising k)) _ h) c way w
+is_in n p (Token k nesting ∷ table) h c way w = is_in n p table (and_second (is_known n (Token k nesting)) _ h) c way w
 is_in n p (symbol.Part q ∷ table) h c way w = is_in n p table (and_second (is_known n (symbol.Part q)) _ h) c way w
 is_in n p (Scope q ∷ table) h c way w = is_in n p table (and_second (is_known n (Scope q)) _ h) c way w
 is_in n p (Maybe q ∷ table) h c way w = is_in n p table (and_second (is_known n (Maybe q)) _ h) c way w

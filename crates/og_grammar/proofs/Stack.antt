@@ -2,7 +2,7 @@
 use Rattle.std.proofs.Common.{◌≡◌, ℕ, suc, ◌+◌, ◌≤◌, Bool, true, false, not, ◌&&◌, List, [], ◌∷◌, ◌++◌, length, nat_lt, refl, arith}
 use Rattle.std.proofs.lemmas.Bool.Decides.{nat_tests}
 use Rattle.og_grammar.specs.declared.Symbol.{Symbol}
-use Rattle.og_grammar.specs.declared.Symbol.TheVariants.{Rule, Token, Raising, Scope, Maybe, Many, NotBefore}
+use Rattle.og_grammar.specs.declared.Symbol.TheVariants.{Rule, Token, Scope, Maybe, Many, NotBefore}
 use Rattle.og_grammar.specs.declared.Symbol.TheVariants as symbol
 use Rattle.og_grammar.specs.declared.Part.{Part}
 use Rattle.og_grammar.specs.Sentence.{Derives}
@@ -17,8 +17,7 @@ use Rattle.og_grammar.proofs.Least.{Avoids, Begun, Goes, AllHaveLeast, list_give
 
 higher : (parts : List Part) (a b : ℕ) (s : Symbol) → a ≤ b → is_ranked parts a s ≡ true → is_ranked parts b s ≡ true
 higher parts a b (Rule p) le h = h
-higher parts a b (Token k) le h = h
-higher parts a b (Raising k) le h = h
+higher parts a b (Token k nesting) le h = h
 higher parts a b (symbol.Part p) le h = and_intro _ _ (up (part_at parts p).rank a b le (and_first _ (nat_lt p (length parts)) h)) (and_second (nat_lt (part_at parts p).rank a) _ h)
   where
     up : (r a b : ℕ) → a ≤ b → nat_lt r a ≡ true → nat_lt r b ≡ true
@@ -39,8 +38,7 @@ all_higher parts a b (s ∷ ss) le h =
 -- symbols other than the beginning of a rule
 abbrev pub is_inner : Symbol → Bool
 is_inner (Rule p) = false
-is_inner (Token k) = true
-is_inner (Raising k) = true
+is_inner (Token k nesting) = true
 is_inner (symbol.Part p) = true
 is_inner (Scope p) = true
 is_inner (Maybe p) = true
@@ -53,8 +51,7 @@ are_inner n (s ∷ ss) = (is_inner s && is_known n s) && are_inner n ss
 
 rank_of : (parts : List Part) (s : Symbol) → is_inner s ≡ true → is_known (length parts) s ≡ true → (n : ℕ) × (is_ranked parts n s ≡ true)
 rank_of parts (Rule p) i h = absurd cc
-rank_of parts (Token k) i h = (0, refl)
-rank_of parts (Raising k) i h = (0, refl)
+rank_of parts (Token k nesting) i h = (0, refl)
 rank_of parts (symbol.Part p) i h = (suc (part_at parts p).rank, and_intro _ _ (self (part_at parts p).rank) h)
   where
     self : (r : ℕ) → nat_lt r (suc r) ≡ true
@@ -102,8 +99,7 @@ out a b k h there = by (has a k) refl
 
 stand_by : (table : List Symbol) (parts : List Part) (s : Symbol) (rest : List Symbol) (set : ℕ) → is_known (length parts) s ≡ true → may_follow parts s set ≡ true → Leads table rest set → Goes table rest (bars_of parts s) → MayStand table parts s rest
 stand_by table parts (Rule p) rest set known m l g = tt
-stand_by table parts (Token k) rest set known m l g = tt
-stand_by table parts (Raising k) rest set known m l g = tt
+stand_by table parts (Token k nesting) rest set known m l g = tt
 stand_by table parts (symbol.Part p) rest set known m l g = record { leads = λ k ts cs d. within_has set (part_at parts p).follows k m (l k ts cs d); goes = g }
 stand_by table parts (Scope p) rest set known m l g = record { leads = λ k ts cs d. within_has set (part_at parts p).follows k m (l k ts cs d); goes = g }
 stand_by table parts (Maybe p) rest set known m l g =

@@ -1,19 +1,21 @@
 -- Where a reader stands behind some tokens: what it has taken begins sentences, and all derivations of these go on from here.
-use Rattle.std.proofs.Common.{◌≡◌, ℕ, suc, ◌<◌, ◌≤◌, List, [], ◌∷◌, ◌++◌, length, Some, slice_get, inl, inr, refl, sym, ap, subst, ◌∙◌, append_assoc, length-append, arith}
+use Rattle.std.proofs.Common.{◌≡◌, ℕ, ◌<◌, ◌≤◌, List, [], ◌∷◌, ◌++◌, length, Some, slice_get, inl, inr, refl, sym, ap, subst, ◌∙◌, append_assoc, length-append, arith}
 use Rattle.std.proofs.lemmas.List.{append-nil}
 use Rattle.og_grammar.specs.declared.Symbol.{Symbol}
-use Rattle.og_grammar.specs.declared.Symbol.TheVariants.{Token, Raising, NotBefore}
+use Rattle.og_grammar.specs.declared.Nesting.{Nesting}
+use Rattle.og_grammar.specs.declared.Nesting.TheVariants.{Keeps}
+use Rattle.og_grammar.specs.declared.Symbol.TheVariants.{Token, NotBefore}
 use Rattle.og_grammar.specs.declared.Due.{Due}
 use Rattle.og_grammar.specs.declared.Due.TheVariants.{Expect, Restore}
 use Rattle.og_grammar.specs.declared.Part.{Part}
-use Rattle.og_grammar.specs.Sentence.{ways, Derives, nothing, token, raising, passes, chosen, Spells, entered, Nests, ends, keeps, rises, restores, skips, takes, NestsAs}
+use Rattle.og_grammar.specs.Sentence.{ways, Derives, nothing, token, passes, chosen, Spells, entered, nested, Nests, ends, meets, restores, skips, takes, NestsAs}
 use Rattle.og_grammar.specs.Answers.{AreWithin, IsDerivation, BeginSome, IsFirstWrong, IsFirstTooDeep, IsCutOff}
 pub use Rattle.og_grammar.specs.Standing.{Stands}
 use Rattle.og_grammar.proofs.Leading.{some_is, head_is, tail_is}
 use Rattle.og_grammar.proofs.Least.{Goes}
 use Rattle.og_grammar.proofs.Stack.{avoids_none}
 use Rattle.og_grammar.proofs.Advances.{symbols_due, due_entered, IsBottomed, Advances}
-use Rattle.og_grammar.proofs.Telling.{token_is, raising_is}
+use Rattle.og_grammar.proofs.Telling.{token_is}
 
 -- ---- every derivation nests in one way
 
@@ -28,19 +30,12 @@ at_end table count [] e = ([], ends)
 at_end table count (Restore before ∷ due) e = let r = at_end table before due e in (r.0, restores r.1)
 at_end table count (Expect s ∷ due) e = absurd cc
 
-at_token : (table : List Symbol) (k : ℕ) (symbols : List Symbol) (cs : List ℕ) → Follow table symbols cs → Follow table (Token k ∷ symbols) cs
-at_token table k symbols cs go count [] e = absurd cc
-at_token table k symbols cs go count (Restore before ∷ due) e = let r = at_token table k symbols cs go before due e in (r.0, restores r.1)
-at_token table k symbols cs go count (Expect s ∷ due) e =
-    let r = go count due (tail_is e) in
-    (count ∷ r.0, subst (λ (x : Symbol). Nests table count (Expect x ∷ due) cs (count ∷ r.0)) (head_is e) (keeps r.1))
-
-at_raising : (table : List Symbol) (k : ℕ) (symbols : List Symbol) (cs : List ℕ) → Follow table symbols cs → Follow table (Raising k ∷ symbols) cs
-at_raising table k symbols cs go count [] e = absurd cc
-at_raising table k symbols cs go count (Restore before ∷ due) e = let r = at_raising table k symbols cs go before due e in (r.0, restores r.1)
-at_raising table k symbols cs go count (Expect s ∷ due) e =
-    let r = go (suc count) due (tail_is e) in
-    (suc count ∷ r.0, subst (λ (x : Symbol). Nests table count (Expect x ∷ due) cs (suc count ∷ r.0)) (head_is e) (rises r.1))
+at_token : (table : List Symbol) (k : ℕ) (nesting : Nesting) (symbols : List Symbol) (cs : List ℕ) → Follow table symbols cs → Follow table (Token k nesting ∷ symbols) cs
+at_token table k nesting symbols cs go count [] e = absurd cc
+at_token table k nesting symbols cs go count (Restore before ∷ due) e = let r = at_token table k nesting symbols cs go before due e in (r.0, restores r.1)
+at_token table k nesting symbols cs go count (Expect s ∷ due) e =
+    let r = go (nested nesting count) due (tail_is e) in
+    (nested nesting count ∷ r.0, subst (λ (x : Symbol). Nests table count (Expect x ∷ due) cs (nested nesting count ∷ r.0)) (head_is e) (meets r.1))
 
 at_guard : (table : List Symbol) (k : ℕ) (symbols : List Symbol) (cs : List ℕ) → Follow table symbols cs → Follow table (NotBefore k ∷ symbols) cs
 at_guard table k symbols cs go count [] e = absurd cc
@@ -58,22 +53,18 @@ at_choice table s c way symbols cs w go count (Expect x ∷ due) e =
 
 pub some_counts : {table : List Symbol} {symbols : List Symbol} {ts cs : List ℕ} → Derives table symbols ts cs → Follow table symbols cs
 some_counts {table = table} nothing = at_end table
-some_counts {table = table} (token {k = k} {symbols = symbols} {choices = cs} d) = at_token table k symbols cs (some_counts d)
-some_counts {table = table} (raising {k = k} {symbols = symbols} {choices = cs} d) = at_raising table k symbols cs (some_counts d)
+some_counts {table = table} (token {k = k} {nesting = nesting} {symbols = symbols} {choices = cs} d) = at_token table k nesting symbols cs (some_counts d)
 some_counts {table = table} (passes {k = k} {symbols = symbols} {choices = cs} apart d) = at_guard table k symbols cs (some_counts d)
 some_counts {table = table} (chosen {symbols = symbols} {choices = cs} s c way w d) = at_choice table s c way symbols cs w (some_counts d)
 
 only_counts : {table : List Symbol} {count : ℕ} {due : List Due} {cs a b : List ℕ} → Nests table count due cs a → Nests table count due cs b → a ≡ b
 only_counts ends ends = refl
-only_counts (keeps {count = count} x) (keeps y) = ap (λ (z : List ℕ). count ∷ z) (only_counts x y)
-only_counts (keeps x) (takes _ c way w y) = absurd cc
-only_counts (rises {count = count} x) (rises y) = ap (λ (z : List ℕ). suc count ∷ z) (only_counts x y)
-only_counts (rises x) (takes _ c way w y) = absurd cc
+only_counts (meets {count = count} {nesting = nesting} x) (meets y) = ap (λ (z : List ℕ). nested nesting count ∷ z) (only_counts x y)
+only_counts (meets x) (takes _ c way w y) = absurd cc
 only_counts (restores x) (restores y) = only_counts x y
 only_counts (skips x) (skips y) = only_counts x y
 only_counts (skips x) (takes _ c way w y) = absurd cc
-only_counts (takes _ c way w x) (keeps y) = absurd cc
-only_counts (takes _ c way w x) (rises y) = absurd cc
+only_counts (takes _ c way w x) (meets y) = absurd cc
 only_counts (takes _ c way w x) (skips y) = absurd cc
 only_counts {table = table} {b = b} (takes {count = count} {due = due} {choices = cs} s c way w x) (takes _ _ way' w' y) =
     let same : way ≡ way' = some_is way way' (sym w ∙ w') in
@@ -85,18 +76,11 @@ within-append : (limit : ℕ) (a b : List ℕ) → AreWithin limit a → AreWith
 within-append limit [] b h g = g
 within-append limit (x ∷ a) b h g = (h.0, within-append limit a b h.1 g)
 
-pub token_goes : {table : List Symbol} {k : ℕ} {rest : List Symbol} → Goes table (Token k ∷ rest) 0 → Goes table rest 0
-token_goes {table = table} {k = k} {rest = rest} g = by g.2
+pub token_goes : {table : List Symbol} {k : ℕ} {nesting : Nesting} {rest : List Symbol} → Goes table (Token k nesting ∷ rest) 0 → Goes table rest 0
+token_goes {table = table} {k = k} {nesting = nesting} {rest = rest} g = by g.2
   where
-    by : {ts cs : List ℕ} → Derives table (Token k ∷ rest) ts cs → Goes table rest 0
+    by : {ts cs : List ℕ} → Derives table (Token k nesting ∷ rest) ts cs → Goes table rest 0
     by (token {tokens = ts} {choices = cs} d) = (ts, cs, d, avoids_none ts)
-    by (chosen _ c way w d) = absurd cc
-
-pub raising_goes : {table : List Symbol} {k : ℕ} {rest : List Symbol} → Goes table (Raising k ∷ rest) 0 → Goes table rest 0
-raising_goes {table = table} {k = k} {rest = rest} g = by g.2
-  where
-    by : {ts cs : List ℕ} → Derives table (Raising k ∷ rest) ts cs → Goes table rest 0
-    by (raising {tokens = ts} {choices = cs} d) = (ts, cs, d, avoids_none ts)
     by (chosen _ c way w d) = absurd cc
 
 pub bottom_behind : (last : ℕ) (d : Due) (due : List Due) → IsBottomed last (d ∷ due) → IsBottomed last due
@@ -104,15 +88,16 @@ bottom_behind last d due (inl e) = absurd cc
 bottom_behind last d due (inr ([], e)) = inl (tail_is e)
 bottom_behind last d due (inr (x ∷ f, e)) = inr (f, tail_is e)
 
--- a token of kind k is taken
-pub stands_plain : (table : List Symbol) (parts : List Part) (last limit k : ℕ) (front : List ℕ) (due new : List Due) (count new_count : ℕ) (choices made : List ℕ) → Stands table parts last limit front due count choices
-    → Advances table parts last k due count (Expect (Token k) ∷ new) new_count made → Stands table parts last limit (front ++ k ∷ []) new new_count (choices ++ made)
-stands_plain table parts last limit k front due new count new_count choices made s a =
+-- a token of kind k is taken, with a nesting that does not pass the limit
+pub stands_met : (table : List Symbol) (parts : List Part) (last limit k : ℕ) (nesting : Nesting) (front : List ℕ) (due new : List Due) (count new_count : ℕ) (choices made : List ℕ) → Stands table parts last limit front due count choices
+    → Advances table parts last k due count (Expect (Token k nesting) ∷ new) new_count made → nested nesting new_count ≤ limit → Stands table parts last limit (front ++ k ∷ []) new (nested nesting new_count) (choices ++ made)
+stands_met table parts last limit k nesting front due new count new_count choices made s a le =
+    let here : ℕ = nested nesting new_count in
     let low = a.low limit s.count_low s.low in
     record {
-      after = s.after ++ new_count ∷ [];
-      long = omega (arith, length-append s.after (new_count ∷ []), length-append front (k ∷ []), s.long);
-      within = within-append limit s.after (new_count ∷ []) s.within (low.0, tt);
+      after = s.after ++ here ∷ [];
+      long = omega (arith, length-append s.after (here ∷ []), length-append front (k ∷ []), s.long);
+      within = within-append limit s.after (here ∷ []) s.within (le, tt);
       fore = λ ts cs d.
           let x = s.fore (k ∷ ts) (made ++ cs) (a.fore ts cs (token d)) in
           subst (λ (z : List ℕ). Spells table last z ((choices ++ made) ++ cs)) (sym (append_assoc front (k ∷ []) ts)) (subst (λ (z : List ℕ). Spells table last (front ++ k ∷ ts) z) (sym (append_assoc choices made cs)) x);
@@ -121,36 +106,11 @@ stands_plain table parts last limit k front due new count new_count choices made
           let y = a.back ts x.0 x.2 in
           (y.0, x.1 ∙ ap (λ (z : List ℕ). choices ++ z) y.1 ∙ sym (append_assoc choices made y.0), (token_is y.2).1);
       nests = λ cs counts n.
-          let x = s.nests (made ++ cs) (new_count ∷ counts) (a.nests cs (new_count ∷ counts) (keeps n)) in
-          subst (λ (z : List ℕ). NestsAs table last z ((s.after ++ new_count ∷ []) ++ counts)) (sym (append_assoc choices made cs)) (subst (λ (z : List ℕ). NestsAs table last (choices ++ (made ++ cs)) z) (sym (append_assoc s.after (new_count ∷ []) counts)) x);
+          let x = s.nests (made ++ cs) (here ∷ counts) (a.nests cs (here ∷ counts) (meets n)) in
+          subst (λ (z : List ℕ). NestsAs table last z ((s.after ++ here ∷ []) ++ counts)) (sym (append_assoc choices made cs)) (subst (λ (z : List ℕ). NestsAs table last (choices ++ (made ++ cs)) z) (sym (append_assoc s.after (here ∷ []) counts)) x);
       ready = record { line = a.line.1; goes = token_goes a.goes };
-      bottom = bottom_behind last (Expect (Token k)) new a.bottom;
-      count_low = low.0;
-      low = low.1;
-    }
-
--- one at which the nesting rises, not past the limit
-pub stands_deeper : (table : List Symbol) (parts : List Part) (last limit k : ℕ) (front : List ℕ) (due new : List Due) (count new_count : ℕ) (choices made : List ℕ) → Stands table parts last limit front due count choices
-    → Advances table parts last k due count (Expect (Raising k) ∷ new) new_count made → new_count < limit → Stands table parts last limit (front ++ k ∷ []) new (suc new_count) (choices ++ made)
-stands_deeper table parts last limit k front due new count new_count choices made s a lt =
-    let low = a.low limit s.count_low s.low in
-    record {
-      after = s.after ++ suc new_count ∷ [];
-      long = omega (arith, length-append s.after (suc new_count ∷ []), length-append front (k ∷ []), s.long);
-      within = within-append limit s.after (suc new_count ∷ []) s.within (omega arith, tt);
-      fore = λ ts cs d.
-          let x = s.fore (k ∷ ts) (made ++ cs) (a.fore ts cs (raising d)) in
-          subst (λ (z : List ℕ). Spells table last z ((choices ++ made) ++ cs)) (sym (append_assoc front (k ∷ []) ts)) (subst (λ (z : List ℕ). Spells table last (front ++ k ∷ ts) z) (sym (append_assoc choices made cs)) x);
-      back = λ ts cs d.
-          let x = s.back (k ∷ ts) cs (subst (λ (z : List ℕ). Spells table last z cs) (append_assoc front (k ∷ []) ts) d) in
-          let y = a.back ts x.0 x.2 in
-          (y.0, x.1 ∙ ap (λ (z : List ℕ). choices ++ z) y.1 ∙ sym (append_assoc choices made y.0), (raising_is y.2).1);
-      nests = λ cs counts n.
-          let x = s.nests (made ++ cs) (suc new_count ∷ counts) (a.nests cs (suc new_count ∷ counts) (rises n)) in
-          subst (λ (z : List ℕ). NestsAs table last z ((s.after ++ suc new_count ∷ []) ++ counts)) (sym (append_assoc choices made cs)) (subst (λ (z : List ℕ). NestsAs table last (choices ++ (made ++ cs)) z) (sym (append_assoc s.after (suc new_count ∷ []) counts)) x);
-      ready = record { line = a.line.1; goes = raising_goes a.goes };
-      bottom = bottom_behind last (Expect (Raising k)) new a.bottom;
-      count_low = omega arith;
+      bottom = bottom_behind last (Expect (Token k nesting)) new a.bottom;
+      count_low = le;
       low = low.1;
     }
 
@@ -183,10 +143,11 @@ answers_wrong table parts last limit k front behind due count choices s no_way =
   none = λ more cs d. let b = s.back (k ∷ more) cs d in no_way more b.0 b.2;
 }
 
-pub answers_deep : (table : List Symbol) (parts : List Part) (last limit k : ℕ) (front behind : List ℕ) (due new : List Due) (count new_count : ℕ) (choices made : List ℕ) → Stands table parts last limit front due count choices
-    → Advances table parts last k due count (Expect (Raising k) ∷ new) new_count made → limit ≤ new_count → IsFirstTooDeep table last limit (front ++ k ∷ behind) (length front)
-answers_deep table parts last limit k front behind due new count new_count choices made s a le =
-    let g = raising_goes a.goes in
+pub answers_deep : (table : List Symbol) (parts : List Part) (last limit k : ℕ) (nesting : Nesting) (front behind : List ℕ) (due new : List Due) (count new_count : ℕ) (choices made : List ℕ) → Stands table parts last limit front due count choices
+    → Advances table parts last k due count (Expect (Token k nesting) ∷ new) new_count made → limit < nested nesting new_count → IsFirstTooDeep table last limit (front ++ k ∷ behind) (length front)
+answers_deep table parts last limit k nesting front behind due new count new_count choices made s a lt =
+    let here : ℕ = nested nesting new_count in
+    let g = token_goes a.goes in
     record {
       front = front;
       deep = k;
@@ -195,38 +156,37 @@ answers_deep table parts last limit k front behind due new count new_count choic
       before = refl;
       more = g.0;
       choices = choices ++ (made ++ g.1);
-      spells = s.fore (k ∷ g.0) (made ++ g.1) (a.fore g.0 g.1 (raising g.2));
+      spells = s.fore (k ∷ g.0) (made ++ g.1) (a.fore g.0 g.1 (token g.2));
       each = λ more cs counts d n.
           let x = s.back (k ∷ more) cs d in
           let y = a.back more x.0 x.2 in
-          let own = some_counts (raising_is y.2).1 (suc new_count) new refl in
-          let all = s.nests (made ++ y.0) (suc new_count ∷ own.0) (a.nests y.0 (suc new_count ∷ own.0) (rises own.1)) in
+          let own = some_counts (token_is y.2).1 here new refl in
+          let all = s.nests (made ++ y.0) (here ∷ own.0) (a.nests y.0 (here ∷ own.0) (meets own.1)) in
           let same : choices ++ (made ++ y.0) ≡ cs = ap (λ (z : List ℕ). choices ++ z) (sym y.1) ∙ sym x.1 in
           record {
-            here = suc new_count;
+            here = here;
             before = s.after;
             later = own.0;
-            parts = only_counts n (subst (λ (z : List ℕ). NestsAs table last z (s.after ++ suc new_count ∷ own.0)) same all);
+            parts = only_counts n (subst (λ (z : List ℕ). NestsAs table last z (s.after ++ here ∷ own.0)) same all);
             each = s.long;
             within = s.within;
-            passes = omega arith;
+            passes = lt;
           };
     }
 
-no_end : (last : ℕ) (front : List Symbol) → [] ≡ front ++ Token last ∷ [] → ⊥
+no_end : (last : ℕ) (front : List Symbol) → [] ≡ front ++ Token last Keeps ∷ [] → ⊥
 no_end last [] e = cc
 no_end last (s ∷ front) e = cc
 
-pub not_ended : {table : List Symbol} (last : ℕ) (front : List Symbol) {symbols : List Symbol} {ts cs : List ℕ} → Derives table symbols ts cs → symbols ≡ front ++ Token last ∷ [] → ts ≡ [] → ⊥
+pub not_ended : {table : List Symbol} (last : ℕ) (front : List Symbol) {symbols : List Symbol} {ts cs : List ℕ} → Derives table symbols ts cs → symbols ≡ front ++ Token last Keeps ∷ [] → ts ≡ [] → ⊥
 not_ended last front nothing e f = no_end last front e
 not_ended last front (token d) e f = cc
-not_ended last front (raising d) e f = cc
-not_ended last [] (passes {k = k} apart d) e f = let clash : NotBefore k ≡ Token last = head_is e in cc
+not_ended last [] (passes {k = k} apart d) e f = let clash : NotBefore k ≡ Token last Keeps = head_is e in cc
 not_ended last (s ∷ front) (passes apart d) e f = not_ended last front d (tail_is e) f
 not_ended {table = table} last [] (chosen s c way w d) e f =
-    let clash : slice_get (ways table (Token last)) c ≡ Some way = subst (λ (x : Symbol). slice_get (ways table x) c ≡ Some way) (head_is e) w in absurd cc
+    let clash : slice_get (ways table (Token last Keeps)) c ≡ Some way = subst (λ (x : Symbol). slice_get (ways table x) c ≡ Some way) (head_is e) w in absurd cc
 not_ended last (x ∷ front) (chosen s c way w d) e f =
-    not_ended last (way ++ front) d (ap (λ (z : List Symbol). way ++ z) (tail_is e) ∙ sym (append_assoc way front (Token last ∷ []))) f
+    not_ended last (way ++ front) d (ap (λ (z : List Symbol). way ++ z) (tail_is e) ∙ sym (append_assoc way front (Token last Keeps ∷ []))) f
 
 pub symbols-append : (a b : List Due) → symbols_due (a ++ b) ≡ symbols_due a ++ symbols_due b
 symbols-append [] b = refl
@@ -244,7 +204,7 @@ answers_cut table parts last limit front due count choices s left = record {
     by cs d (inl e) = left e
     by cs d (inr b) =
         let x = s.back [] cs (subst (λ (z : List ℕ). Spells table last z cs) (sym (append-nil front)) d) in
-        not_ended last (symbols_due b.0) x.2 (ap symbols_due b.1 ∙ symbols-append b.0 (Expect (Token last) ∷ [])) refl
+        not_ended last (symbols_due b.0) x.2 (ap symbols_due b.1 ∙ symbols-append b.0 (Expect (Token last Keeps) ∷ [])) refl
 
 pub answers_found : (table : List Symbol) (parts : List Part) (last limit : ℕ) (front : List ℕ) (due : List Due) (count : ℕ) (choices : List ℕ) → Stands table parts last limit front due count choices
     → due ≡ [] → IsDerivation table last limit front choices × ((other : List ℕ) → Spells table last front other → other ≡ choices)

@@ -1,14 +1,15 @@
 -- What each step of a reader says of the derivations.
 use Rattle.std.proofs.Common.{◌≡◌, ℕ, ◌<◌, Bool, true, false, cond, List, [], ◌∷◌, Option, Some, None, nat_eq, refl, sym, ap, ◌∙◌, arith}
 use Rattle.og_grammar.specs.declared.Symbol.{Symbol}
-use Rattle.og_grammar.specs.declared.Symbol.TheVariants.{Rule, Token, Raising, Scope, Maybe, Many, NotBefore}
+use Rattle.og_grammar.specs.declared.Nesting.{Nesting}
+use Rattle.og_grammar.specs.declared.Symbol.TheVariants.{Rule, Token, Scope, Maybe, Many, NotBefore}
 use Rattle.og_grammar.specs.declared.Symbol.TheVariants as symbol
 use Rattle.og_grammar.specs.declared.Due.{Due}
 use Rattle.og_grammar.specs.declared.Due.TheVariants.{Expect, Restore}
 use Rattle.og_grammar.specs.declared.Part.{Part}
 use Rattle.og_grammar.specs.declared.run.Step.{Step}
 use Rattle.og_grammar.specs.declared.run.Step.TheVariants as step
-use Rattle.og_grammar.specs.Sentence.{IsNotFirst, Derives, token, raising, passes, chosen, restores, skips}
+use Rattle.og_grammar.specs.Sentence.{IsNotFirst, Derives, token, passes, chosen, restores, skips}
 use Rattle.og_grammar.specs.Rows.{choice_of, way_of}
 use Rattle.og_grammar.specs.Steps.{Stepped, by_choice, met, stepped}
 use Rattle.og_grammar.proofs.Sets.{is_same, not_same}
@@ -20,8 +21,7 @@ use Rattle.og_grammar.proofs.Entering.{IsReady, lighter, entering}
 -- what a step says: it goes on and what is due gets lighter, the token is due, or no derivation has it here
 abbrev pub Tells : List Symbol → List Part → ℕ → ℕ → ℕ → List Due → Stepped → Step → Type 0
 Tells table parts last k count due to step.On = Advances table parts last k due count to.due to.count to.choices × (weight_due parts to.due < weight_due parts due)
-Tells table parts last k count due to step.Plain = (due ≡ Expect (Token k) ∷ to.due) × (to.count ≡ count) × (to.choices ≡ [])
-Tells table parts last k count due to step.Deeper = (due ≡ Expect (Raising k) ∷ to.due) × (to.count ≡ count) × (to.choices ≡ [])
+Tells table parts last k count due to (step.Met nesting) = (due ≡ Expect (Token k nesting) ∷ to.due) × (to.count ≡ count) × (to.choices ≡ [])
 Tells table parts last k count due to step.Wrong = (ts cs : List ℕ) → Derives table (symbols_due due) (k ∷ ts) cs → ⊥
 
 no_more : {table : List Symbol} {k : ℕ} {ts cs : List ℕ} → Derives table [] (k ∷ ts) cs → ⊥
@@ -30,13 +30,9 @@ no_more d = elim d [ ]
 no_rule : {table : List Symbol} {p : ℕ} {rest : List Symbol} {ts cs : List ℕ} → Derives table (Rule p ∷ rest) ts cs → ⊥
 no_rule (chosen _ c way w d) = absurd cc
 
-pub token_is : {table : List Symbol} {t k : ℕ} {rest : List Symbol} {ts cs : List ℕ} → Derives table (Token t ∷ rest) (k ∷ ts) cs → (t ≡ k) × Derives table rest ts cs
+pub token_is : {table : List Symbol} {t k : ℕ} {nesting : Nesting} {rest : List Symbol} {ts cs : List ℕ} → Derives table (Token t nesting ∷ rest) (k ∷ ts) cs → (t ≡ k) × Derives table rest ts cs
 token_is (token d) = (refl, d)
 token_is (chosen _ c way w d) = absurd cc
-
-pub raising_is : {table : List Symbol} {t k : ℕ} {rest : List Symbol} {ts cs : List ℕ} → Derives table (Raising t ∷ rest) (k ∷ ts) cs → (t ≡ k) × Derives table rest ts cs
-raising_is (raising d) = (refl, d)
-raising_is (chosen _ c way w d) = absurd cc
 
 pub passes_is : {table : List Symbol} {t : ℕ} {rest : List Symbol} {ts cs : List ℕ} → Derives table (NotBefore t ∷ rest) ts cs → IsNotFirst t ts × Derives table rest ts cs
 passes_is (passes apart d) = (apart, d)
@@ -58,15 +54,10 @@ module _ (table : List Symbol) (parts : List Part) (last : ℕ) (sound : IsSound
     omega arith,
   )
 
-  plain_by : (t : ℕ) (due : List Due) (b : Bool) → nat_eq t k ≡ b
-      → Tells table parts last k count (Expect (Token t) ∷ due) (record { step = cond b step.Plain step.Wrong; due = due; count = count; choices = [] }) (cond b step.Plain step.Wrong)
-  plain_by t due true e = (ap (λ (n : ℕ). Expect (Token n) ∷ due) (is_same t k e), refl, refl)
-  plain_by t due false e = λ ts cs d. not_same t k e (token_is d).0
-
-  deeper_by : (t : ℕ) (due : List Due) (b : Bool) → nat_eq t k ≡ b
-      → Tells table parts last k count (Expect (Raising t) ∷ due) (record { step = cond b step.Deeper step.Wrong; due = due; count = count; choices = [] }) (cond b step.Deeper step.Wrong)
-  deeper_by t due true e = (ap (λ (n : ℕ). Expect (Raising n) ∷ due) (is_same t k e), refl, refl)
-  deeper_by t due false e = λ ts cs d. not_same t k e (raising_is d).0
+  token_by : (t : ℕ) (nesting : Nesting) (due : List Due) (b : Bool) → nat_eq t k ≡ b
+      → Tells table parts last k count (Expect (Token t nesting) ∷ due) (record { step = cond b (step.Met nesting) step.Wrong; due = due; count = count; choices = [] }) (cond b (step.Met nesting) step.Wrong)
+  token_by t nesting due true e = (ap (λ (n : ℕ). Expect (Token n nesting) ∷ due) (is_same t k e), refl, refl)
+  token_by t nesting due false e = λ ts cs d. not_same t k e (token_is d).0
 
   barred_by : (t : ℕ) (due : List Due) → IsReady table parts (NotBefore t ∷ symbols_due due) → IsBottomed last (Expect (NotBefore t) ∷ due) → (b : Bool) → nat_eq t k ≡ b
       → Tells table parts last k count (Expect (NotBefore t) ∷ due) (record { step = cond b step.Wrong step.On; due = due; count = count; choices = [] }) (cond b step.Wrong step.On)
@@ -100,8 +91,7 @@ module _ (table : List Symbol) (parts : List Part) (last : ℕ) (sound : IsSound
   tells_symbol : (s : Symbol) (due : List Due) → IsReady table parts (s ∷ symbols_due due) → IsBottomed last (Expect s ∷ due)
       → Tells table parts last k count (Expect s ∷ due) (met (rows table parts) parts k count s due) (met (rows table parts) parts k count s due).step
   tells_symbol (Rule p) due ready bottom = λ ts cs d. no_rule d
-  tells_symbol (Token t) due ready bottom = plain_by t due (nat_eq t k) refl
-  tells_symbol (Raising t) due ready bottom = deeper_by t due (nat_eq t k) refl
+  tells_symbol (Token t nesting) due ready bottom = token_by t nesting due (nat_eq t k) refl
   tells_symbol (NotBefore t) due ready bottom = barred_by t due ready bottom (nat_eq t k) refl
   tells_symbol (symbol.Part p) due ready bottom = choice_by (symbol.Part p) due refl ready.line.0 ready bottom (choice_of (rows table parts) parts (symbol.Part p) k) refl
   tells_symbol (Scope p) due ready bottom = choice_by (Scope p) due refl ready.line.0 ready bottom (choice_of (rows table parts) parts (Scope p) k) refl

@@ -1,25 +1,25 @@
 -- A sentence of a table that passes the test has one derivation.
 use Rattle.std.proofs.Common.{◌≡◌, ℕ, true, List, [], ◌∷◌, ◌++◌, Some, slice_get, ◌⊎◌, inl, inr, refl, sym, ap, subst, ◌∙◌, append_assoc, IsTrue}
 use Rattle.og_grammar.specs.declared.Symbol.{Symbol}
-use Rattle.og_grammar.specs.declared.Symbol.TheVariants.{Rule, Token, Raising, Scope, Maybe, Many, NotBefore}
+use Rattle.og_grammar.specs.declared.Nesting.TheVariants.{Keeps}
+use Rattle.og_grammar.specs.declared.Symbol.TheVariants.{Rule, Token, Scope, Maybe, Many, NotBefore}
 use Rattle.og_grammar.specs.declared.Symbol.TheVariants as symbol
 use Rattle.og_grammar.specs.declared.Part.{Part}
-use Rattle.og_grammar.specs.Sentence.{ways, Derives, nothing, token, raising, passes, chosen, Spells}
+use Rattle.og_grammar.specs.Sentence.{ways, Derives, nothing, token, passes, chosen, Spells}
 use Rattle.og_grammar.specs.Predictive.{is_predictive}
 use Rattle.og_grammar.specs.Rows.{way_of}
 use Rattle.og_grammar.specs.Standing.{AreInLine}
 use Rattle.og_grammar.proofs.Leading.{some_is, head_is, tail_is}
 use Rattle.og_grammar.proofs.Choices.{IsSound, rows, leaves_choice, taken_way, forced}
 use Rattle.og_grammar.proofs.Entering.{ready}
-use Rattle.og_grammar.proofs.Telling.{token_is, raising_is, passes_is}
+use Rattle.og_grammar.proofs.Telling.{token_is, passes_is}
 use Rattle.og_grammar.proofs.Sound.{sound_of}
 use Rattle.og_grammar.proofs.Standing.{not_ended}
 use Rattle.og_grammar.proofs.Reaching.{first_ready}
 
 leaves : (table : List Symbol) (s : Symbol) (c : ℕ) (way : List Symbol) → slice_get (ways table s) c ≡ Some way → leaves_choice s ≡ true
 leaves table (Rule p) c way w = absurd cc
-leaves table (Token k) c way w = absurd cc
-leaves table (Raising k) c way w = absurd cc
+leaves table (Token k nesting) c way w = absurd cc
 leaves table (NotBefore k) c way w = absurd cc
 leaves table (symbol.Part p) c way w = refl
 leaves table (Scope p) c way w = refl
@@ -28,7 +28,7 @@ leaves table (Many p) c way w = refl
 
 -- the last token is at the end, unless all is done
 abbrev Closed : ℕ → List Symbol → Type 0
-Closed last symbols = (symbols ≡ []) ⊎ ((front : List Symbol) × (symbols ≡ front ++ Token last ∷ []))
+Closed last symbols = (symbols ≡ []) ⊎ ((front : List Symbol) × (symbols ≡ front ++ Token last Keeps ∷ []))
 
 closed_behind : (last : ℕ) (s : Symbol) (rest : List Symbol) → Closed last (s ∷ rest) → Closed last rest
 closed_behind last s rest (inl e) = absurd cc
@@ -57,14 +57,13 @@ module _ (table : List Symbol) (parts : List Part) (last : ℕ) (sound : IsSound
       let closes : Closed last (way ++ rest) = elim closed [ inl x ↦ absurd cc | inr x ↦ enters x.0 x.1 ] in
       ap (λ (z : List ℕ). c ∷ z) (go other.others behind in_line.line closes) ∙ ap (λ (n : ℕ). n ∷ other.others) (sym same) ∙ sym other.first
     where
-      enters : (front : List Symbol) → s ∷ rest ≡ front ++ Token last ∷ [] → Closed last (way ++ rest)
-      enters [] x = let is_token : s ≡ Token last = head_is x in let clash : leaves_choice (Token last) ≡ true = subst (λ (z : Symbol). leaves_choice z ≡ true) is_token (leaves table s c way w) in absurd cc
-      enters (y ∷ f) x = inr (way ++ f, ap (λ (z : List Symbol). way ++ z) (tail_is x) ∙ sym (append_assoc way f (Token last ∷ [])))
+      enters : (front : List Symbol) → s ∷ rest ≡ front ++ Token last Keeps ∷ [] → Closed last (way ++ rest)
+      enters [] x = let is_token : s ≡ Token last Keeps = head_is x in let clash : leaves_choice (Token last Keeps) ≡ true = subst (λ (z : Symbol). leaves_choice z ≡ true) is_token (leaves table s c way w) in absurd cc
+      enters (y ∷ f) x = inr (way ++ f, ap (λ (z : List Symbol). way ++ z) (tail_is x) ∙ sym (append_assoc way f (Token last Keeps ∷ [])))
 
   unique : {symbols : List Symbol} {ts a : List ℕ} → Derives table symbols ts a → (b : List ℕ) → Derives table symbols ts b → AreInLine table parts symbols → Closed last symbols → a ≡ b
   unique nothing b e line closed = none_left e
-  unique (token {k = k} {symbols = rest} d) b e line closed = unique d b (token_is e).1 line.1 (closed_behind last (Token k) rest closed)
-  unique (raising {k = k} {symbols = rest} d) b e line closed = unique d b (raising_is e).1 line.1 (closed_behind last (Raising k) rest closed)
+  unique (token {k = k} {nesting = nesting} {symbols = rest} d) b e line closed = unique d b (token_is e).1 line.1 (closed_behind last (Token k nesting) rest closed)
   unique (passes {k = k} {symbols = rest} apart d) b e line closed = unique d b (passes_is e).1 line.1 (closed_behind last (NotBefore k) rest closed)
   unique (chosen {symbols = rest} {tokens = ts} {choices = cs} s c way w d) b e line closed =
       same_choice s c way rest cs b w line closed ts d e (λ b' e' line' closed'. unique d b' e' line' closed')

@@ -3,7 +3,7 @@
 use Rattle.std.specs.Prelude.{ℕ, zero, suc, ◌+◌, ◌^◌, Bool, true, false, ◌&&◌, ◌||◌, not, List, [], ◌∷◌, length, Option, Some, None, unwrap_or, slice_get, if◌then◌else◌, nat_lt, nat_le, ◌==◌, bit_and, bit_or, bit_xor}
 use Rattle.std.specs.Int.{bit_at}
 use Rattle.og_grammar.specs.declared.Symbol.{Symbol}
-use Rattle.og_grammar.specs.declared.Symbol.TheVariants.{Rule, Token, Raising, Scope, Maybe, Many, NotBefore}
+use Rattle.og_grammar.specs.declared.Symbol.TheVariants.{Rule, Token, Scope, Maybe, Many, NotBefore}
 use Rattle.og_grammar.specs.declared.Symbol.TheVariants as symbol
 use Rattle.og_grammar.specs.declared.Part.{Part}
 use Rattle.og_grammar.specs.Sentence.{rules_of}
@@ -33,8 +33,7 @@ part_at parts p = unwrap_or (slice_get parts p) no_part
 -- whether the symbol may have no token
 abbrev pub is_empty : List Part → Symbol → Bool
 is_empty parts (Rule p) = false
-is_empty parts (Token k) = false
-is_empty parts (Raising k) = false
+is_empty parts (Token k nesting) = false
 is_empty parts (symbol.Part p) = (part_at parts p).empty
 is_empty parts (Scope p) = (part_at parts p).empty
 is_empty parts (Maybe p) = true
@@ -48,8 +47,7 @@ are_empty parts (s ∷ ss) = is_empty parts s && are_empty parts ss
 -- the kinds with which a text of the symbol begins, where the kinds behind it are these
 abbrev pub ahead_of : List Part → Symbol → ℕ → ℕ
 ahead_of parts (Rule p) behind = 0
-ahead_of parts (Token k) behind = 2 ^ k
-ahead_of parts (Raising k) behind = 2 ^ k
+ahead_of parts (Token k nesting) behind = 2 ^ k
 ahead_of parts (symbol.Part p) behind = bit_or (part_at parts p).begins (if (part_at parts p).empty then behind else 0)
 ahead_of parts (Scope p) behind = bit_or (part_at parts p).begins (if (part_at parts p).empty then behind else 0)
 ahead_of parts (Maybe p) behind = bit_or (part_at parts p).begins behind
@@ -63,8 +61,7 @@ ahead parts (s ∷ ss) behind = ahead_of parts s (ahead parts ss behind)
 -- the kinds that may stand behind the symbol
 abbrev pub may_follow : List Part → Symbol → ℕ → Bool
 may_follow parts (Rule p) set = true
-may_follow parts (Token k) set = true
-may_follow parts (Raising k) set = true
+may_follow parts (Token k nesting) set = true
 may_follow parts (symbol.Part p) set = is_within set (part_at parts p).follows
 may_follow parts (Scope p) set = is_within set (part_at parts p).follows
 may_follow parts (Maybe p) set = is_within set (part_at parts p).follows && (are_apart (part_at parts p).begins set && not (part_at parts p).empty)
@@ -74,8 +71,7 @@ may_follow parts (NotBefore k) set = true
 -- the kinds that need not be able to stand behind the symbol
 abbrev pub bars_of : List Part → Symbol → ℕ
 bars_of parts (Rule p) = 0
-bars_of parts (Token k) = 0
-bars_of parts (Raising k) = 0
+bars_of parts (Token k nesting) = 0
 bars_of parts (symbol.Part p) = (part_at parts p).bars
 bars_of parts (Scope p) = (part_at parts p).bars
 bars_of parts (Maybe p) = (part_at parts p).bars
@@ -86,8 +82,7 @@ bars_of parts (NotBefore k) = 2 ^ k
 abbrev pub lead_of : List Part → List Symbol → ℕ
 lead_of parts [] = 0
 lead_of parts (Rule p ∷ ss) = lead_of parts ss
-lead_of parts (Token k ∷ ss) = 2 ^ k
-lead_of parts (Raising k ∷ ss) = 2 ^ k
+lead_of parts (Token k nesting ∷ ss) = 2 ^ k
 lead_of parts (symbol.Part p ∷ ss) = if (part_at parts p).lead == 0 then lead_of parts ss else (part_at parts p).lead
 lead_of parts (Scope p ∷ ss) = if (part_at parts p).lead == 0 then lead_of parts ss else (part_at parts p).lead
 lead_of parts (Maybe p ∷ ss) = lead_of parts ss
@@ -108,8 +103,7 @@ are_placed parts (s ∷ ss) behind bars =
 
 abbrev pub weight_of : List Part → Symbol → ℕ
 weight_of parts (Rule p) = 0
-weight_of parts (Token k) = 0
-weight_of parts (Raising k) = 0
+weight_of parts (Token k nesting) = 0
 weight_of parts (symbol.Part p) = (part_at parts p).weight
 weight_of parts (Scope p) = suc (part_at parts p).weight
 weight_of parts (Maybe p) = suc (suc (part_at parts p).weight)
@@ -126,8 +120,7 @@ abbrev pub is_ranked : List Part → ℕ → Symbol → Bool
 is_ranked parts n (symbol.Part p) = nat_lt (part_at parts p).rank n && nat_lt p (length parts)
 is_ranked parts n (Scope p) = nat_lt (part_at parts p).rank n && nat_lt p (length parts)
 is_ranked parts n (Rule p) = false
-is_ranked parts n (Token k) = true
-is_ranked parts n (Raising k) = true
+is_ranked parts n (Token k nesting) = true
 is_ranked parts n (Maybe p) = true
 is_ranked parts n (Many p) = true
 is_ranked parts n (NotBefore k) = true
@@ -170,8 +163,7 @@ is_known n (symbol.Part p) = nat_lt p n
 is_known n (Scope p) = nat_lt p n
 is_known n (Maybe p) = nat_lt p n
 is_known n (Many p) = nat_lt p n
-is_known n (Token k) = nat_lt k 128
-is_known n (Raising k) = nat_lt k 128
+is_known n (Token k nesting) = nat_lt k 128
 is_known n (NotBefore k) = nat_lt k 128
 
 abbrev pub are_known : ℕ → List Symbol → Bool

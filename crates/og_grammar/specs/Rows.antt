@@ -1,7 +1,7 @@
 -- The rules of a table as a reader keeps them: each with the kinds of a next token at which it is taken.
 use Rattle.std.specs.Prelude.{ℕ, zero, suc, ◌%◌, List, [], ◌∷◌, ◌++◌, map, Option, Some, None, option_map, slice_get, position, if◌then◌else◌, ◌==◌}
 use Rattle.og_grammar.specs.declared.Symbol.{Symbol}
-use Rattle.og_grammar.specs.declared.Symbol.TheVariants.{Rule, Token, Raising, Scope, Maybe, Many, NotBefore}
+use Rattle.og_grammar.specs.declared.Symbol.TheVariants.{Rule, Token, Scope, Maybe, Many, NotBefore}
 use Rattle.og_grammar.specs.declared.Symbol.TheVariants as symbol
 use Rattle.og_grammar.specs.declared.Part.{Part}
 use Rattle.og_grammar.specs.declared.rows.Row.{Row}
@@ -31,8 +31,7 @@ row_choice (Some rows) k = option_map (λ c. c % 256) (place_in rows k)
 -- the choice that the kind of the next token makes
 abbrev pub choice_of : List (List Row) → List Part → Symbol → ℕ → Option ℕ
 choice_of rows parts (Rule p) k = None
-choice_of rows parts (Token t) k = None
-choice_of rows parts (Raising t) k = None
+choice_of rows parts (Token t nesting) k = None
 choice_of rows parts (symbol.Part p) k = row_choice (slice_get rows p) k
 choice_of rows parts (Scope p) k = row_choice (slice_get rows p) k
 choice_of rows parts (Maybe p) k = Some (if has (part_at parts p).begins k then 1 else 0)
@@ -51,8 +50,7 @@ row_at (Some rows) c = symbols_of (slice_get rows c)
 -- what a choice puts in the place of a symbol
 abbrev pub way_of : List (List Row) → Symbol → ℕ → List Symbol
 way_of rows (Rule p) c = []
-way_of rows (Token t) c = []
-way_of rows (Raising t) c = []
+way_of rows (Token t nesting) c = []
 way_of rows (symbol.Part p) c = row_at (slice_get rows p) c
 way_of rows (Scope p) c = row_at (slice_get rows p) c
 way_of rows (Maybe p) c = if c == 1 then symbol.Part p ∷ [] else []

@@ -2,7 +2,8 @@
 -- and before the next token the derivations are the same as before.
 use Rattle.std.specs.Prelude.{◌≡◌, ℕ, ◌<◌, ◌≤◌, ◌^◌, true, false, List, [], ◌∷◌, ◌++◌, length, reverse, ◌⊎◌}
 use Rattle.og_grammar.specs.declared.Symbol.{Symbol}
-use Rattle.og_grammar.specs.declared.Symbol.TheVariants.{Rule, Token, Raising, Scope, Maybe, Many, NotBefore}
+use Rattle.og_grammar.specs.declared.Nesting.TheVariants.{Keeps}
+use Rattle.og_grammar.specs.declared.Symbol.TheVariants.{Rule, Token, Scope, Maybe, Many, NotBefore}
 use Rattle.og_grammar.specs.declared.Symbol.TheVariants as symbol
 use Rattle.og_grammar.specs.declared.Due.{Due}
 use Rattle.og_grammar.specs.declared.Due.TheVariants.{Expect, Restore}
@@ -54,8 +55,7 @@ pub record IsRepeatBefore (table : List Symbol) (parts : List Part) (p : ℕ) (r
 
 abbrev pub MayStand : List Symbol → List Part → Symbol → List Symbol → Type 0
 MayStand table parts (Rule p) rest = Unit {0}
-MayStand table parts (Token k) rest = Unit {0}
-MayStand table parts (Raising k) rest = Unit {0}
+MayStand table parts (Token k nesting) rest = Unit {0}
 MayStand table parts (symbol.Part p) rest = IsBefore table (part_at parts p) rest
 MayStand table parts (Scope p) rest = IsBefore table (part_at parts p) rest
 MayStand table parts (Maybe p) rest = IsOptionBefore table parts p rest
@@ -75,7 +75,7 @@ symbols_due (Restore count ∷ due) = symbols_due due
 
 -- at the bottom is the last token, unless all is done
 abbrev pub IsBottomed : ℕ → List Due → Type 0
-IsBottomed last due = (due ≡ []) ⊎ ((front : List Due) × (due ≡ front ++ Expect (Token last) ∷ []))
+IsBottomed last due = (due ≡ []) ⊎ ((front : List Due) × (due ≡ front ++ Expect (Token last Keeps) ∷ []))
 
 -- the nesting that is restored later passes no limit
 abbrev pub AreLow : ℕ → List Due → Type 0
@@ -106,8 +106,7 @@ pub record LeadsTo (table : List Symbol) (parts : List Part) (last k : ℕ) (old
 -- and then the token is met, or no derivation has it there
 abbrev pub Reaches : List Symbol → List Part → ℕ → ℕ → Run → Run → Step → Type 0
 Reaches table parts last k old new step.On = ⊥
-Reaches table parts last k old new step.Plain = LeadsTo table parts last k old (Expect (Token k) ∷ reverse new.due) new.count new.choices
-Reaches table parts last k old new step.Deeper = LeadsTo table parts last k old (Expect (Raising k) ∷ reverse new.due) new.count new.choices
+Reaches table parts last k old new (step.Met nesting) = LeadsTo table parts last k old (Expect (Token k nesting) ∷ reverse new.due) new.count new.choices
 Reaches table parts last k old new step.Wrong = (ts cs : List ℕ) → Derives table (symbols_due (reverse old.due)) (k ∷ ts) cs → ⊥
 
 pub record IsFirst (last : ℕ) (run : Run) : Type 0 where

@@ -1,7 +1,7 @@
 -- One step of a reader that stands before a token: what is due first is taken up, by what the token's kind says.
 use Rattle.std.specs.Prelude.{◌≡◌, ℕ, List, [], ◌∷◌, ◌++◌, reverse, Option, Some, None, if◌then◌else◌, ◌==◌}
 use Rattle.og_grammar.specs.declared.Symbol.{Symbol}
-use Rattle.og_grammar.specs.declared.Symbol.TheVariants.{Rule, Token, Raising, Scope, Maybe, Many, NotBefore}
+use Rattle.og_grammar.specs.declared.Symbol.TheVariants.{Rule, Token, Scope, Maybe, Many, NotBefore}
 use Rattle.og_grammar.specs.declared.Symbol.TheVariants as symbol
 use Rattle.og_grammar.specs.declared.Part.{Part}
 use Rattle.og_grammar.specs.declared.Due.{Due}
@@ -27,8 +27,7 @@ by_choice rows count s due (Some c) = record { step = step.On; due = entered cou
 -- a symbol is due
 abbrev pub met : List (List Row) → List Part → ℕ → ℕ → Symbol → List Due → Stepped
 met rows parts k count (Rule p) due = record { step = step.Wrong; due = due; count = count; choices = [] }
-met rows parts k count (Token t) due = record { step = (if t == k then step.Plain else step.Wrong); due = due; count = count; choices = [] }
-met rows parts k count (Raising t) due = record { step = (if t == k then step.Deeper else step.Wrong); due = due; count = count; choices = [] }
+met rows parts k count (Token t nesting) due = record { step = (if t == k then step.Met nesting else step.Wrong); due = due; count = count; choices = [] }
 met rows parts k count (symbol.Part p) due = by_choice rows count (symbol.Part p) due (choice_of rows parts (symbol.Part p) k)
 met rows parts k count (Scope p) due = by_choice rows count (Scope p) due (choice_of rows parts (Scope p) k)
 met rows parts k count (Maybe p) due = by_choice rows count (Maybe p) due (choice_of rows parts (Maybe p) k)

@@ -15,10 +15,8 @@ pub use reader::{Refusal, derive, each_is_answered, never_deeper, one_derivation
 pub enum Symbol {
     /// A rule of this part begins.
     Rule(u8),
-    /// A token of this kind.
-    Token(u8),
-    /// A token of this kind, at which the nesting rises by one.
-    Raising(u8),
+    /// A token of this kind, and what it does to the nesting.
+    Token(u8, Nesting),
     /// What one of the rules of this part says.
     Part(u8),
     /// The same, at whose end the nesting is what it was before.
@@ -29,6 +27,15 @@ pub enum Symbol {
     Many(u8),
     /// Nothing, where the next token is not of this kind.
     NotBefore(u8),
+}
+
+/// What a token does to the nesting: it is the same behind it, it rises by this number, or it falls by this number, though
+/// not below 0.
+#[derive(Clone, Copy, Debug, PartialEq, Eq)]
+pub enum Nesting {
+    Keeps,
+    Rises(u8),
+    Falls(u8),
 }
 
 /// What the test of a table takes for granted of a part, and verifies rule by rule. A set of kinds has the bit k for

@@ -1,6 +1,6 @@
 //! The public call: the derivation of a list of tokens.
-ghost use Rattle.std.specs.Prelude.{◌≡◌, ◌⊎◌, ℕ, List, IfOk, IsTrue, length, reverse};
-ghost use Rattle.og_grammar.specs.Sentence.{Spells};
+ghost use Rattle.std.specs.Prelude.{◌≡◌, ◌<◌, ◌≤◌, ◌*◌, ◌⊎◌, ℕ, List, IfOk, IfSome, IsNone, IsTrue, length, reverse};
+ghost use Rattle.og_grammar.specs.Sentence.{Spells, nested, rises_within};
 ghost use Rattle.og_grammar.specs.declared.Symbol.{Symbol};
 ghost use Rattle.og_grammar.specs.declared.Part.{Part};
 ghost use Rattle.og_grammar.specs.Predictive.{is_predictive};
@@ -11,7 +11,7 @@ ghost use Rattle.og_grammar.specs.Standing.{IsFirst};
 
 use crate::rows::{Row, all_rows};
 use crate::run::{Run, Step, reach};
-use crate::{Due, Part, Symbol};
+use crate::{Due, Nesting, Part, Symbol};
 use sqlite_items::Items;
 use std::alloc::{AllocError, Global};
 
@@ -59,13 +59,10 @@ pub fn derive(
     let mut run = first_run(alloc, last)?;
     for (at, kind) in kinds.iter().enumerate() {
         match reach(table, rows.as_slice(), parts, last, *kind, &mut run)? {
-            Step::Plain => {}
-            Step::Deeper => {
-                if run.count >= limit {
-                    return Err(Refusal::TooDeep(at));
-                }
-                run.count += 1;
-            }
+            Step::Met(nesting) => match nested(nesting, run.count, limit) {
+                None => return Err(Refusal::TooDeep(at)),
+                Some(count) => run.count = count,
+            },
             _ => return Err(Refusal::Wrong(at)),
         }
     }
@@ -89,17 +86,38 @@ pub fn each_is_answered()
         ((choices : List ℕ) × Spells table last tokens choices) ⊎ ((choices : List ℕ) → Spells table last tokens choices → ⊥) }
 {}
 
-/// A limit of as many as there are tokens is never passed.
+/// A limit is never passed where a table rises by at most `most` at a token, and the limit is that often the tokens.
 pub fn never_deeper()
-    ensures { (table : List Symbol) (last : ℕ) (tokens : List ℕ) (place : ℕ) → IsFirstTooDeep table last (length tokens) tokens place → ⊥ }
+    ensures { (table : List Symbol) (last most : ℕ) → IsTrue (rises_within most table) → (tokens : List ℕ) (place : ℕ) →
+        IsFirstTooDeep table last (most * length tokens) tokens place → ⊥ }
 {}
+
+/// The nesting behind a token that does this to it, unless it passes the limit.
+fn nested(nesting: Nesting, count: usize, limit: usize) -> Option<usize>
+    requires { count ≤ limit }
+    ensures some { IfSome result (λ new. (new ≡ nested nesting count) × (new ≤ limit)) }
+    ensures none { IsNone result → limit < nested nesting count }
+{
+    match nesting {
+        Nesting::Keeps => Some(count),
+        Nesting::Rises(by) => {
+            let by = usize::from(by);
+            if by > limit - count {
+                None
+            } else {
+                Some(count + by)
+            }
+        }
+        Nesting::Falls(by) => Some(count.saturating_sub(usize::from(by))),
+    }
+}
 
 /// At the first token part 0 is due, and then the last token.
 fn first_run(alloc: Global, last: u8) -> Result<Run, AllocError>
     ensures { IfOk result (λ run. IsFirst last run) }
 {
     let mut due = Items::new(alloc);
-    due.push(Due::Expect(Symbol::Token(last)))?;
+    due.push(Due::Expect(Symbol::Token(last, Nesting::Keeps)))?;
     due.push(Due::Expect(Symbol::Part(0)))?;
     let choices = Items::new(alloc);
     Ok(Run {

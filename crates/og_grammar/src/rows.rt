@@ -123,7 +123,7 @@ fn ahead_of(parts: &[Part], symbol: Symbol, behind: u128) -> u128
 {
     match symbol {
         Symbol::Rule(_) => 0,
-        Symbol::Token(kind) | Symbol::Raising(kind) => 1 << kind,
+        Symbol::Token(kind, _) => 1 << kind,
         Symbol::Part(part) | Symbol::Scope(part) => {
             let part = part_at(parts, part);
             if part.empty {

@@ -7,7 +7,7 @@ ghost use Rattle.og_grammar.specs.Steps.{StepsTo, by_choice, met, stepped};
 ghost use Rattle.og_grammar.specs.Standing.{symbols_due, IsBottomed, IsReady, Reaches};
 
 use crate::rows::{Row, has, part_at};
-use crate::{Due, Part, Symbol};
+use crate::{Due, Nesting, Part, Symbol};
 use sqlite_items::Items;
 use std::alloc::AllocError;
 
@@ -19,12 +19,11 @@ pub struct Run {
     pub choices: Items<u8>,
 }
 
-/// What a step comes to: it goes on, it meets the token, at which the nesting may rise, or the token is wrong.
+/// What a step comes to: it goes on, it meets the token, which does this to the nesting, or the token is wrong.
 #[derive(Clone, Copy, Debug, PartialEq, Eq)]
 pub enum Step {
     On,
-    Plain,
-    Deeper,
+    Met(Nesting),
     Wrong,
 }
 
@@ -82,13 +81,8 @@ fn meet(
 {
     match symbol {
         Symbol::Rule(_) => Ok(Step::Wrong),
-        Symbol::Token(due) => Ok(if due == kind {
-            Step::Plain
-        } else {
-            Step::Wrong
-        }),
-        Symbol::Raising(due) => Ok(if due == kind {
-            Step::Deeper
+        Symbol::Token(due, nesting) => Ok(if due == kind {
+            Step::Met(nesting)
         } else {
             Step::Wrong
         }),

@@ -3,6 +3,7 @@ ghost use Rattle.std.specs.Prelude.{IsTrue};
 ghost use Rattle.og_grammar.specs.Predictive.{is_predictive};
 
 use crate::{kind, part};
+use og_grammar::Nesting::{Falls, Keeps, Rises};
 use og_grammar::{Part, Symbol};
 
 /// The kind of the last token.
@@ -18,96 +19,96 @@ pub const TRIAL: [Symbol; 389] = [
     // end = ?comment Semi
     Symbol::Rule(part::END),
     Symbol::Maybe(part::COMMENT),
-    Symbol::Token(kind::SEMI),
+    Symbol::Token(kind::SEMI, Keeps),
     // comment = COMMENT Text
     Symbol::Rule(part::COMMENT),
-    Symbol::Token(kind::COMMENT),
-    Symbol::Token(kind::TEXT),
+    Symbol::Token(kind::COMMENT, Keeps),
+    Symbol::Token(kind::TEXT, Keeps),
     // signal = SIGNAL sig *more_sig end
     Symbol::Rule(part::SIGNAL),
-    Symbol::Token(kind::SIGNAL),
+    Symbol::Token(kind::SIGNAL, Keeps),
     Symbol::Part(part::SIG),
     Symbol::Many(part::MORE_SIG),
     Symbol::Part(part::END),
     // more_sig = Comma sig
     Symbol::Rule(part::MORE_SIG),
-    Symbol::Token(kind::COMMA),
+    Symbol::Token(kind::COMMA, Keeps),
     Symbol::Part(part::SIG),
     // sig = Name ?params
     Symbol::Rule(part::SIG),
-    Symbol::Token(kind::NAME),
+    Symbol::Token(kind::NAME, Keeps),
     Symbol::Maybe(part::PARAMS),
-    // params = !LPar Name *more_name RPar
+    // params = +LPar Name *more_name -RPar
     Symbol::Rule(part::PARAMS),
-    Symbol::Raising(kind::LPAR),
-    Symbol::Token(kind::NAME),
+    Symbol::Token(kind::LPAR, Rises(1)),
+    Symbol::Token(kind::NAME, Keeps),
     Symbol::Many(part::MORE_NAME),
-    Symbol::Token(kind::RPAR),
+    Symbol::Token(kind::RPAR, Falls(1)),
     // more_name = Comma Name
     Symbol::Rule(part::MORE_NAME),
-    Symbol::Token(kind::COMMA),
-    Symbol::Token(kind::NAME),
+    Symbol::Token(kind::COMMA, Keeps),
+    Symbol::Token(kind::NAME, Keeps),
     // dcl = DCL item *more_item end
     Symbol::Rule(part::DCL),
-    Symbol::Token(kind::DCL),
+    Symbol::Token(kind::DCL, Keeps),
     Symbol::Part(part::ITEM),
     Symbol::Many(part::MORE_ITEM),
     Symbol::Part(part::END),
     // more_item = Comma item
     Symbol::Rule(part::MORE_ITEM),
-    Symbol::Token(kind::COMMA),
+    Symbol::Token(kind::COMMA, Keeps),
     Symbol::Part(part::ITEM),
     // item = Name *more_name hname ?initial
     Symbol::Rule(part::ITEM),
-    Symbol::Token(kind::NAME),
+    Symbol::Token(kind::NAME, Keeps),
     Symbol::Many(part::MORE_NAME),
     Symbol::Part(part::HNAME),
     Symbol::Maybe(part::INITIAL),
     // hname = Name *hyphened
     Symbol::Rule(part::HNAME),
-    Symbol::Token(kind::NAME),
+    Symbol::Token(kind::NAME, Keeps),
     Symbol::Many(part::HYPHENED),
     // hyphened = Minus Name
     Symbol::Rule(part::HYPHENED),
-    Symbol::Token(kind::MINUS),
-    Symbol::Token(kind::NAME),
+    Symbol::Token(kind::MINUS, Keeps),
+    Symbol::Token(kind::NAME, Keeps),
     // initial = Assign @expr
     Symbol::Rule(part::INITIAL),
-    Symbol::Token(kind::ASSIGN),
+    Symbol::Token(kind::ASSIGN, Keeps),
     Symbol::Scope(part::EXPR),
-    // state = !STATE Name end *apart ENDSTATE ?own_name end
+    // state = +STATE Name end *apart -ENDSTATE ?own_name end
     Symbol::Rule(part::STATE),
-    Symbol::Raising(kind::STATE),
-    Symbol::Token(kind::NAME),
+    Symbol::Token(kind::STATE, Rises(1)),
+    Symbol::Token(kind::NAME, Keeps),
     Symbol::Part(part::END),
     Symbol::Many(part::APART),
-    Symbol::Token(kind::ENDSTATE),
+    Symbol::Token(kind::ENDSTATE, Falls(1)),
     Symbol::Maybe(part::OWN_NAME),
     Symbol::Part(part::END),
     // own_name = Name
     Symbol::Rule(part::OWN_NAME),
-    Symbol::Token(kind::NAME),
+    Symbol::Token(kind::NAME, Keeps),
     // apart = INPUT Name end enabling *step
     Symbol::Rule(part::APART),
-    Symbol::Token(kind::INPUT),
-    Symbol::Token(kind::NAME),
+    Symbol::Token(kind::INPUT, Keeps),
+    Symbol::Token(kind::NAME, Keeps),
     Symbol::Part(part::END),
     Symbol::Part(part::ENABLING),
     Symbol::Many(part::STEP),
     // apart = PROVIDED @expr end *step
     Symbol::Rule(part::APART),
-    Symbol::Token(kind::PROVIDED),
+    Symbol::Token(kind::PROVIDED, Keeps),
     Symbol::Scope(part::EXPR),
     Symbol::Part(part::END),
     Symbol::Many(part::STEP),
     // apart = SAVE Name end
     Symbol::Rule(part::APART),
-    Symbol::Token(kind::SAVE),
-    Symbol::Token(kind::NAME),
+    Symbol::Token(kind::SAVE, Keeps),
+    Symbol::Token(kind::NAME, Keeps),
     Symbol::Part(part::END),
     // enabling = PROVIDED @expr end
     Symbol::Rule(part::ENABLING),
-    Symbol::Token(kind::PROVIDED),
+    Symbol::Token(kind::PROVIDED, Keeps),
     Symbol::Scope(part::EXPR),
     Symbol::Part(part::END),
     // enabling = ~PROVIDED
@@ -122,33 +123,33 @@ pub const TRIAL: [Symbol; 389] = [
     Symbol::Part(part::STEP_BODY),
     // label = Name Colon
     Symbol::Rule(part::LABEL),
-    Symbol::Token(kind::NAME),
-    Symbol::Token(kind::COLON),
+    Symbol::Token(kind::NAME, Keeps),
+    Symbol::Token(kind::COLON, Keeps),
     // step_body = TASK assign *more_assign end
     Symbol::Rule(part::STEP_BODY),
-    Symbol::Token(kind::TASK),
+    Symbol::Token(kind::TASK, Keeps),
     Symbol::Part(part::ASSIGN),
     Symbol::Many(part::MORE_ASSIGN),
     Symbol::Part(part::END),
     // step_body = OUTPUT out *more_out end
     Symbol::Rule(part::STEP_BODY),
-    Symbol::Token(kind::OUTPUT),
+    Symbol::Token(kind::OUTPUT, Keeps),
     Symbol::Part(part::OUT),
     Symbol::Many(part::MORE_OUT),
     Symbol::Part(part::END),
-    // step_body = @decision end
+    // step_body = decision end
     Symbol::Rule(part::STEP_BODY),
-    Symbol::Scope(part::DECISION),
+    Symbol::Part(part::DECISION),
     Symbol::Part(part::END),
     // step_body = NEXTSTATE target end no_step
     Symbol::Rule(part::STEP_BODY),
-    Symbol::Token(kind::NEXTSTATE),
+    Symbol::Token(kind::NEXTSTATE, Keeps),
     Symbol::Part(part::TARGET),
     Symbol::Part(part::END),
     Symbol::Part(part::NO_STEP),
     // step_body = STOP end no_step
     Symbol::Rule(part::STEP_BODY),
-    Symbol::Token(kind::STOP),
+    Symbol::Token(kind::STOP, Keeps),
     Symbol::Part(part::END),
     Symbol::Part(part::NO_STEP),
     // no_step = ~Name ~TASK ~OUTPUT ~DECISION ~NEXTSTATE ~STOP
@@ -161,68 +162,68 @@ pub const TRIAL: [Symbol; 389] = [
     Symbol::NotBefore(kind::STOP),
     // target = Minus
     Symbol::Rule(part::TARGET),
-    Symbol::Token(kind::MINUS),
+    Symbol::Token(kind::MINUS, Keeps),
     // target = Name
     Symbol::Rule(part::TARGET),
-    Symbol::Token(kind::NAME),
+    Symbol::Token(kind::NAME, Keeps),
     // assign = @lvalue Assign @expr
     Symbol::Rule(part::ASSIGN),
     Symbol::Scope(part::LVALUE),
-    Symbol::Token(kind::ASSIGN),
+    Symbol::Token(kind::ASSIGN, Keeps),
     Symbol::Scope(part::EXPR),
     // lvalue = Name *selector
     Symbol::Rule(part::LVALUE),
-    Symbol::Token(kind::NAME),
+    Symbol::Token(kind::NAME, Keeps),
     Symbol::Many(part::SELECTOR),
     // more_assign = Comma assign
     Symbol::Rule(part::MORE_ASSIGN),
-    Symbol::Token(kind::COMMA),
+    Symbol::Token(kind::COMMA, Keeps),
     Symbol::Part(part::ASSIGN),
     // out = Name ?args
     Symbol::Rule(part::OUT),
-    Symbol::Token(kind::NAME),
+    Symbol::Token(kind::NAME, Keeps),
     Symbol::Maybe(part::ARGS),
     // more_out = Comma out
     Symbol::Rule(part::MORE_OUT),
-    Symbol::Token(kind::COMMA),
+    Symbol::Token(kind::COMMA, Keeps),
     Symbol::Part(part::OUT),
-    // args = !LPar @expr *more_expr RPar
+    // args = +LPar @expr *more_expr -RPar
     Symbol::Rule(part::ARGS),
-    Symbol::Raising(kind::LPAR),
+    Symbol::Token(kind::LPAR, Rises(1)),
     Symbol::Scope(part::EXPR),
     Symbol::Many(part::MORE_EXPR),
-    Symbol::Token(kind::RPAR),
+    Symbol::Token(kind::RPAR, Falls(1)),
     // more_expr = Comma @expr
     Symbol::Rule(part::MORE_EXPR),
-    Symbol::Token(kind::COMMA),
+    Symbol::Token(kind::COMMA, Keeps),
     Symbol::Scope(part::EXPR),
-    // decision = !DECISION @expr end *branch ?otherwise ENDDECISION
+    // decision = +DECISION @expr end *branch ?otherwise -ENDDECISION
     Symbol::Rule(part::DECISION),
-    Symbol::Raising(kind::DECISION),
+    Symbol::Token(kind::DECISION, Rises(1)),
     Symbol::Scope(part::EXPR),
     Symbol::Part(part::END),
     Symbol::Many(part::BRANCH),
     Symbol::Maybe(part::OTHERWISE),
-    Symbol::Token(kind::ENDDECISION),
-    // branch = @answers Colon *step
+    Symbol::Token(kind::ENDDECISION, Falls(1)),
+    // branch = answers Colon *step
     Symbol::Rule(part::BRANCH),
-    Symbol::Scope(part::ANSWERS),
-    Symbol::Token(kind::COLON),
+    Symbol::Part(part::ANSWERS),
+    Symbol::Token(kind::COLON, Keeps),
     Symbol::Many(part::STEP),
     // otherwise = ELSE Colon *step
     Symbol::Rule(part::OTHERWISE),
-    Symbol::Token(kind::ELSE),
-    Symbol::Token(kind::COLON),
+    Symbol::Token(kind::ELSE, Keeps),
+    Symbol::Token(kind::COLON, Keeps),
     Symbol::Many(part::STEP),
-    // answers = !LPar @answer *more_answer RPar
+    // answers = +LPar @answer *more_answer -RPar
     Symbol::Rule(part::ANSWERS),
-    Symbol::Raising(kind::LPAR),
+    Symbol::Token(kind::LPAR, Rises(1)),
     Symbol::Scope(part::ANSWER),
     Symbol::Many(part::MORE_ANSWER),
-    Symbol::Token(kind::RPAR),
+    Symbol::Token(kind::RPAR, Falls(1)),
     // more_answer = Comma @answer
     Symbol::Rule(part::MORE_ANSWER),
-    Symbol::Token(kind::COMMA),
+    Symbol::Token(kind::COMMA, Keeps),
     Symbol::Scope(part::ANSWER),
     // answer = constant ?upto
     Symbol::Rule(part::ANSWER),
@@ -234,53 +235,53 @@ pub const TRIAL: [Symbol; 389] = [
     Symbol::Part(part::CONSTANT),
     // upto = Colon constant
     Symbol::Rule(part::UPTO),
-    Symbol::Token(kind::COLON),
+    Symbol::Token(kind::COLON, Keeps),
     Symbol::Part(part::CONSTANT),
-    // constant = !Minus Number
+    // constant = +Minus Number
     Symbol::Rule(part::CONSTANT),
-    Symbol::Raising(kind::MINUS),
-    Symbol::Token(kind::NUMBER),
+    Symbol::Token(kind::MINUS, Rises(1)),
+    Symbol::Token(kind::NUMBER, Keeps),
     // constant = Number
     Symbol::Rule(part::CONSTANT),
-    Symbol::Token(kind::NUMBER),
+    Symbol::Token(kind::NUMBER, Keeps),
     // constant = Name
     Symbol::Rule(part::CONSTANT),
-    Symbol::Token(kind::NAME),
+    Symbol::Token(kind::NAME, Keeps),
     // constant = TRUE
     Symbol::Rule(part::CONSTANT),
-    Symbol::Token(kind::TRUE),
+    Symbol::Token(kind::TRUE, Keeps),
     // constant = FALSE
     Symbol::Rule(part::CONSTANT),
-    Symbol::Token(kind::FALSE),
-    // relop = !Eq
+    Symbol::Token(kind::FALSE, Keeps),
+    // relop = +Eq
     Symbol::Rule(part::RELOP),
-    Symbol::Raising(kind::EQ),
-    // relop = !Ne
+    Symbol::Token(kind::EQ, Rises(1)),
+    // relop = +Ne
     Symbol::Rule(part::RELOP),
-    Symbol::Raising(kind::NE),
-    // relop = !Lt
+    Symbol::Token(kind::NE, Rises(1)),
+    // relop = +Lt
     Symbol::Rule(part::RELOP),
-    Symbol::Raising(kind::LT),
-    // relop = !Le
+    Symbol::Token(kind::LT, Rises(1)),
+    // relop = +Le
     Symbol::Rule(part::RELOP),
-    Symbol::Raising(kind::LE),
-    // relop = !Gt
+    Symbol::Token(kind::LE, Rises(1)),
+    // relop = +Gt
     Symbol::Rule(part::RELOP),
-    Symbol::Raising(kind::GT),
-    // relop = !Ge
+    Symbol::Token(kind::GT, Rises(1)),
+    // relop = +Ge
     Symbol::Rule(part::RELOP),
-    Symbol::Raising(kind::GE),
+    Symbol::Token(kind::GE, Rises(1)),
     // expr = Name after_name
     Symbol::Rule(part::EXPR),
-    Symbol::Token(kind::NAME),
+    Symbol::Token(kind::NAME, Keeps),
     Symbol::Part(part::AFTER_NAME),
     // expr = first_operand tails
     Symbol::Rule(part::EXPR),
     Symbol::Part(part::FIRST_OPERAND),
     Symbol::Part(part::TAILS),
-    // after_name = !Colon @expr
+    // after_name = +Colon @expr
     Symbol::Rule(part::AFTER_NAME),
-    Symbol::Raising(kind::COLON),
+    Symbol::Token(kind::COLON, Rises(1)),
     Symbol::Scope(part::EXPR),
     // after_name = *selector tails
     Symbol::Rule(part::AFTER_NAME),
@@ -297,28 +298,28 @@ pub const TRIAL: [Symbol; 389] = [
     Symbol::Rule(part::FACTOR),
     Symbol::Part(part::MULOP),
     Symbol::Part(part::OPERAND),
-    // mulop = !Star
+    // mulop = +Star
     Symbol::Rule(part::MULOP),
-    Symbol::Raising(kind::STAR),
-    // mulop = !Slash
+    Symbol::Token(kind::STAR, Rises(1)),
+    // mulop = +Slash
     Symbol::Rule(part::MULOP),
-    Symbol::Raising(kind::SLASH),
-    // mulop = !MOD
+    Symbol::Token(kind::SLASH, Rises(1)),
+    // mulop = +MOD
     Symbol::Rule(part::MULOP),
-    Symbol::Raising(kind::MOD),
-    // mulop = !REM
+    Symbol::Token(kind::MOD, Rises(1)),
+    // mulop = +REM
     Symbol::Rule(part::MULOP),
-    Symbol::Raising(kind::REM),
+    Symbol::Token(kind::REM, Rises(1)),
     // term = addop product
     Symbol::Rule(part::TERM),
     Symbol::Part(part::ADDOP),
     Symbol::Part(part::PRODUCT),
-    // addop = !Plus
+    // addop = +Plus
     Symbol::Rule(part::ADDOP),
-    Symbol::Raising(kind::PLUS),
-    // addop = !Minus
+    Symbol::Token(kind::PLUS, Rises(1)),
+    // addop = +Minus
     Symbol::Rule(part::ADDOP),
-    Symbol::Raising(kind::MINUS),
+    Symbol::Token(kind::MINUS, Rises(1)),
     // product = operand *factor
     Symbol::Rule(part::PRODUCT),
     Symbol::Part(part::OPERAND),
@@ -331,14 +332,14 @@ pub const TRIAL: [Symbol; 389] = [
     Symbol::Rule(part::SUM),
     Symbol::Part(part::PRODUCT),
     Symbol::Many(part::TERM),
-    // conjunct = !AND ?then relation
+    // conjunct = +AND ?then relation
     Symbol::Rule(part::CONJUNCT),
-    Symbol::Raising(kind::AND),
+    Symbol::Token(kind::AND, Rises(1)),
     Symbol::Maybe(part::THEN),
     Symbol::Part(part::RELATION),
     // then = THEN
     Symbol::Rule(part::THEN),
-    Symbol::Token(kind::THEN),
+    Symbol::Token(kind::THEN, Keeps),
     // relation = sum ?comparison
     Symbol::Rule(part::RELATION),
     Symbol::Part(part::SUM),
@@ -347,88 +348,88 @@ pub const TRIAL: [Symbol; 389] = [
     Symbol::Rule(part::DISJUNCT),
     Symbol::Part(part::OROP),
     Symbol::Part(part::CONJUNCTION),
-    // orop = !OR ?else
+    // orop = +OR ?else
     Symbol::Rule(part::OROP),
-    Symbol::Raising(kind::OR),
+    Symbol::Token(kind::OR, Rises(1)),
     Symbol::Maybe(part::ELSE),
-    // orop = !XOR
+    // orop = +XOR
     Symbol::Rule(part::OROP),
-    Symbol::Raising(kind::XOR),
+    Symbol::Token(kind::XOR, Rises(1)),
     // else = ELSE
     Symbol::Rule(part::ELSE),
-    Symbol::Token(kind::ELSE),
+    Symbol::Token(kind::ELSE, Keeps),
     // conjunction = relation *conjunct
     Symbol::Rule(part::CONJUNCTION),
     Symbol::Part(part::RELATION),
     Symbol::Many(part::CONJUNCT),
     // operand = Name *selector
     Symbol::Rule(part::OPERAND),
-    Symbol::Token(kind::NAME),
+    Symbol::Token(kind::NAME, Keeps),
     Symbol::Many(part::SELECTOR),
     // operand = first_operand
     Symbol::Rule(part::OPERAND),
     Symbol::Part(part::FIRST_OPERAND),
-    // first_operand = !Minus operand
+    // first_operand = +Minus operand
     Symbol::Rule(part::FIRST_OPERAND),
-    Symbol::Raising(kind::MINUS),
+    Symbol::Token(kind::MINUS, Rises(1)),
     Symbol::Part(part::OPERAND),
-    // first_operand = !NOT operand
+    // first_operand = +NOT operand
     Symbol::Rule(part::FIRST_OPERAND),
-    Symbol::Raising(kind::NOT),
+    Symbol::Token(kind::NOT, Rises(1)),
     Symbol::Part(part::OPERAND),
     // first_operand = Number
     Symbol::Rule(part::FIRST_OPERAND),
-    Symbol::Token(kind::NUMBER),
+    Symbol::Token(kind::NUMBER, Keeps),
     // first_operand = TRUE
     Symbol::Rule(part::FIRST_OPERAND),
-    Symbol::Token(kind::TRUE),
+    Symbol::Token(kind::TRUE, Keeps),
     // first_operand = FALSE
     Symbol::Rule(part::FIRST_OPERAND),
-    Symbol::Token(kind::FALSE),
-    // first_operand = @bracketed
+    Symbol::Token(kind::FALSE, Keeps),
+    // first_operand = bracketed
     Symbol::Rule(part::FIRST_OPERAND),
-    Symbol::Scope(part::BRACKETED),
+    Symbol::Part(part::BRACKETED),
     // first_operand = @braces
     Symbol::Rule(part::FIRST_OPERAND),
     Symbol::Scope(part::BRACES),
-    // bracketed = !LPar @expr RPar
+    // bracketed = +LPar @expr -RPar
     Symbol::Rule(part::BRACKETED),
-    Symbol::Raising(kind::LPAR),
+    Symbol::Token(kind::LPAR, Rises(1)),
     Symbol::Scope(part::EXPR),
-    Symbol::Token(kind::RPAR),
-    // selector = !Dot field
+    Symbol::Token(kind::RPAR, Falls(1)),
+    // selector = +Dot field
     Symbol::Rule(part::SELECTOR),
-    Symbol::Raising(kind::DOT),
+    Symbol::Token(kind::DOT, Rises(1)),
     Symbol::Part(part::FIELD),
-    // selector = !Excl field
+    // selector = +Excl field
     Symbol::Rule(part::SELECTOR),
-    Symbol::Raising(kind::EXCL),
+    Symbol::Token(kind::EXCL, Rises(1)),
     Symbol::Part(part::FIELD),
-    // selector = @index
+    // selector = index
     Symbol::Rule(part::SELECTOR),
-    Symbol::Scope(part::INDEX),
-    // index = !LPar @expr RPar
+    Symbol::Part(part::INDEX),
+    // index = ++LPar @expr -RPar
     Symbol::Rule(part::INDEX),
-    Symbol::Raising(kind::LPAR),
+    Symbol::Token(kind::LPAR, Rises(2)),
     Symbol::Scope(part::EXPR),
-    Symbol::Token(kind::RPAR),
+    Symbol::Token(kind::RPAR, Falls(1)),
     // field = Name
     Symbol::Rule(part::FIELD),
-    Symbol::Token(kind::NAME),
+    Symbol::Token(kind::NAME, Keeps),
     // field = STATE
     Symbol::Rule(part::FIELD),
-    Symbol::Token(kind::STATE),
+    Symbol::Token(kind::STATE, Keeps),
     // field = INPUT
     Symbol::Rule(part::FIELD),
-    Symbol::Token(kind::INPUT),
-    // braces = !LBrace inside RBrace
+    Symbol::Token(kind::INPUT, Keeps),
+    // braces = +LBrace inside RBrace
     Symbol::Rule(part::BRACES),
-    Symbol::Raising(kind::LBRACE),
+    Symbol::Token(kind::LBRACE, Rises(1)),
     Symbol::Part(part::INSIDE),
-    Symbol::Token(kind::RBRACE),
+    Symbol::Token(kind::RBRACE, Keeps),
     // inside = Name after_item_name
     Symbol::Rule(part::INSIDE),
-    Symbol::Token(kind::NAME),
+    Symbol::Token(kind::NAME, Keeps),
     Symbol::Part(part::AFTER_ITEM_NAME),
     // inside = first_operand tails *more_item_expr
     Symbol::Rule(part::INSIDE),
@@ -441,9 +442,9 @@ pub const TRIAL: [Symbol; 389] = [
     Symbol::Rule(part::AFTER_ITEM_NAME),
     Symbol::Scope(part::COMPONENT),
     Symbol::Many(part::MORE_COMPONENT),
-    // after_item_name = !Colon @expr *more_item_expr
+    // after_item_name = +Colon @expr *more_item_expr
     Symbol::Rule(part::AFTER_ITEM_NAME),
-    Symbol::Raising(kind::COLON),
+    Symbol::Token(kind::COLON, Rises(1)),
     Symbol::Scope(part::EXPR),
     Symbol::Many(part::MORE_ITEM_EXPR),
     // after_item_name = selector *selector tails *more_item_expr
@@ -459,8 +460,8 @@ pub const TRIAL: [Symbol; 389] = [
     Symbol::Many(part::MORE_ITEM_EXPR),
     // more_component = Comma Name @component_value
     Symbol::Rule(part::MORE_COMPONENT),
-    Symbol::Token(kind::COMMA),
-    Symbol::Token(kind::NAME),
+    Symbol::Token(kind::COMMA, Keeps),
+    Symbol::Token(kind::NAME, Keeps),
     Symbol::Scope(part::COMPONENT_VALUE),
     // component = first_value tails
     Symbol::Rule(part::COMPONENT),
@@ -468,7 +469,7 @@ pub const TRIAL: [Symbol; 389] = [
     Symbol::Part(part::TAILS),
     // component = Name after_name
     Symbol::Rule(part::COMPONENT),
-    Symbol::Token(kind::NAME),
+    Symbol::Token(kind::NAME, Keeps),
     Symbol::Part(part::AFTER_NAME),
     // component_value = first_value tails
     Symbol::Rule(part::COMPONENT_VALUE),
@@ -476,43 +477,43 @@ pub const TRIAL: [Symbol; 389] = [
     Symbol::Part(part::TAILS),
     // component_value = Name after_name
     Symbol::Rule(part::COMPONENT_VALUE),
-    Symbol::Token(kind::NAME),
+    Symbol::Token(kind::NAME, Keeps),
     Symbol::Part(part::AFTER_NAME),
-    // first_value = !Minus operand
+    // first_value = +Minus operand
     Symbol::Rule(part::FIRST_VALUE),
-    Symbol::Raising(kind::MINUS),
+    Symbol::Token(kind::MINUS, Rises(1)),
     Symbol::Part(part::OPERAND),
-    // first_value = !NOT operand
+    // first_value = +NOT operand
     Symbol::Rule(part::FIRST_VALUE),
-    Symbol::Raising(kind::NOT),
+    Symbol::Token(kind::NOT, Rises(1)),
     Symbol::Part(part::OPERAND),
     // first_value = Number
     Symbol::Rule(part::FIRST_VALUE),
-    Symbol::Token(kind::NUMBER),
+    Symbol::Token(kind::NUMBER, Keeps),
     // first_value = TRUE
     Symbol::Rule(part::FIRST_VALUE),
-    Symbol::Token(kind::TRUE),
+    Symbol::Token(kind::TRUE, Keeps),
     // first_value = FALSE
     Symbol::Rule(part::FIRST_VALUE),
-    Symbol::Token(kind::FALSE),
+    Symbol::Token(kind::FALSE, Keeps),
     // first_value = @braces
     Symbol::Rule(part::FIRST_VALUE),
     Symbol::Scope(part::BRACES),
     // more_item_expr = Comma @item_expr
     Symbol::Rule(part::MORE_ITEM_EXPR),
-    Symbol::Token(kind::COMMA),
+    Symbol::Token(kind::COMMA, Keeps),
     Symbol::Scope(part::ITEM_EXPR),
     // item_expr = Name after_listed_name
     Symbol::Rule(part::ITEM_EXPR),
-    Symbol::Token(kind::NAME),
+    Symbol::Token(kind::NAME, Keeps),
     Symbol::Part(part::AFTER_LISTED_NAME),
     // item_expr = first_operand tails
     Symbol::Rule(part::ITEM_EXPR),
     Symbol::Part(part::FIRST_OPERAND),
     Symbol::Part(part::TAILS),
-    // after_listed_name = !Colon @expr
+    // after_listed_name = +Colon @expr
     Symbol::Rule(part::AFTER_LISTED_NAME),
-    Symbol::Raising(kind::COLON),
+    Symbol::Token(kind::COLON, Rises(1)),
     Symbol::Scope(part::EXPR),
     // after_listed_name = selector *selector tails
     Symbol::Rule(part::AFTER_LISTED_NAME),
@@ -729,7 +730,7 @@ pub const TRIAL_PARTS: [Part; 72] = [
         begins: 0x19c0000001,
         follows: 0x1ffc000081,
         empty: false,
-        weight: 4,
+        weight: 3,
         rank: 2,
         least: 0,
         lead: 0x1,
@@ -751,7 +752,7 @@ pub const TRIAL_PARTS: [Part; 72] = [
         begins: 0x19c0000000,
         follows: 0x1ffc000081,
         empty: false,
-        weight: 3,
+        weight: 2,
         rank: 1,
         least: 1,
         lead: 0x80000000,
@@ -872,7 +873,7 @@ pub const TRIAL_PARTS: [Part; 72] = [
         begins: 0x80,
         follows: 0x600000080,
         empty: false,
-        weight: 3,
+        weight: 2,
         rank: 3,
         least: 0,
         lead: 0x80,
@@ -971,7 +972,7 @@ pub const TRIAL_PARTS: [Part; 72] = [
         begins: 0xdc0007ff8a0,
         follows: 0x1000518,
         empty: true,
-        weight: 26,
+        weight: 25,
         rank: 1,
         least: 1,
         lead: 0x0,
@@ -1180,7 +1181,7 @@ pub const TRIAL_PARTS: [Part; 72] = [
         begins: 0x1880,
         follows: 0xdc0017ffdd8,
         empty: false,
-        weight: 3,
+        weight: 2,
         rank: 1,
         least: 0,
         lead: 0x800,
