@@ -22,6 +22,7 @@ use Rattle.og_reading.specs.Reading.{Rest, Take, behind, after, choice_in, goes_
 use Rattle.og_parse_expr.specs.declared.operator.Level.{Level}
 use Rattle.og_parse_expr.specs.declared.operator.Level.TheVariants as level
 use Rattle.og_parse_expr.specs.declared.operator.Sign.{Sign}
+use Rattle.og_parse_expr.specs.declared.operator.Related.{Related}
 
 -- ---- what is made
 
@@ -41,21 +42,39 @@ variable_expr v = plain (out-VarTree v).name.place (Variable v)
 
 -- ---- operators
 
+-- this operator
+abbrev pub sign_as : Operator → Take Sign
+sign_as o rest = (record { operator = o; place = place_in rest }, behind rest)
+
 unfoldable pub product_operator_at : Take Sign
 product_operator_at rest =
-    let c = choice_in rest in
-    (record { operator = (if c == 0 then op.Multiply else (if c == 1 then op.Divide else (if c == 2 then op.Mod else op.Rem))); place = place_in rest }, behind (after rest))
+    let start = after rest in
+    if choice_in rest == 0 then sign_as op.Multiply start
+    else (if choice_in rest == 1 then sign_as op.Divide start
+    else (if choice_in rest == 2 then sign_as op.Mod start
+    else sign_as op.Rem start))
 
 unfoldable pub sum_operator_at : Take Sign
-sum_operator_at rest = (record { operator = (if choice_in rest == 0 then op.Add else op.Subtract); place = place_in rest }, behind (after rest))
+sum_operator_at rest = if choice_in rest == 0 then sign_as op.Add (after rest) else sign_as op.Subtract (after rest)
 
--- a relation by its choice
-abbrev pub relation_by : ℕ → RelationOperator
-relation_by c =
-    if c == 0 then rel.Equal else (if c == 1 then rel.NotEqual else (if c == 2 then rel.Less else (if c == 3 then rel.LessOrEqual else (if c == 4 then rel.Greater else rel.GreaterOrEqual))))
+-- this relation
+abbrev pub relation_as : RelationOperator → Take Related
+relation_as r rest = (record { relation = r; place = place_in rest }, behind rest)
+
+unfoldable pub relation_sign_at : Take Related
+relation_sign_at rest =
+    let start = after rest in
+    if choice_in rest == 0 then relation_as rel.Equal start
+    else (if choice_in rest == 1 then relation_as rel.NotEqual start
+    else (if choice_in rest == 2 then relation_as rel.Less start
+    else (if choice_in rest == 3 then relation_as rel.LessOrEqual start
+    else (if choice_in rest == 4 then relation_as rel.Greater start
+    else relation_as rel.GreaterOrEqual start))))
 
 unfoldable pub relation_operator_at : Take Sign
-relation_operator_at rest = (record { operator = op.Relation (relation_by (choice_in rest)); place = place_in rest }, behind (after rest))
+relation_operator_at rest =
+    let r = relation_sign_at rest in
+    (record { operator = op.Relation r.0.relation; place = r.0.place }, r.1)
 
 -- an operator, or the other one where a word stands behind it
 abbrev pub with_word : Operator → Operator → Place → Take Sign
@@ -63,12 +82,12 @@ with_word without «with» place rest =
     if goes_on rest then (record { operator = «with»; place = place }, behind (after (after rest))) else (record { operator = without; place = place }, after rest)
 
 unfoldable pub and_operator_at : Take Sign
-and_operator_at rest = with_word op.And op.AndThen (place_in rest) (behind (after rest))
+and_operator_at rest = let start = after rest in with_word op.And op.AndThen (place_in start) (behind start)
 
 unfoldable pub or_operator_at : Take Sign
 or_operator_at rest =
-    if choice_in rest == 0 then with_word op.Or op.OrElse (place_in rest) (behind (after rest))
-    else (record { operator = op.Xor; place = place_in rest }, behind (after rest))
+    let start = after rest in
+    if choice_in rest == 0 then with_word op.Or op.OrElse (place_in start) (behind start) else sign_as op.Xor start
 
 -- an operator of a level
 abbrev pub operator_at : Level → Take Sign
@@ -151,13 +170,13 @@ tails_at inside first rest =
 -- ---- variables
 
 -- a name, or a keyword in its place
+abbrev pub field_as : Rest → Token → FieldTree
+field_as rest (token.Keyword word) = field.Keyword (place_in rest) word
+field_as rest _ = field.Name (name_in rest)
+
 abbrev pub field_by : Rest → List Spanned → FieldTree
 field_by rest [] = field.Name (name_in rest)
-field_by rest (t ∷ ts) = by t.token
-  where
-    by : Token → FieldTree
-    by (token.Keyword word) = field.Keyword (place_in rest) word
-    by _ = field.Name (name_in rest)
+field_by rest (t ∷ ts) = field_as rest t.token
 
 abbrev pub field_in : Rest → FieldTree
 field_in rest = field_by rest rest.tokens

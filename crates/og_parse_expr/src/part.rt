@@ -1,4 +1,4 @@
-//! The parts of the grammar of expressions.
+//! The parts of the grammar of expressions (Z.101 clause 12).
 
 pub const WHOLE: u8 = 0;
 
