@@ -64,7 +64,7 @@ not_kind : (t : TheToken) (ts : List Spanned) → IsNotFirst (kind_of t) (kinds_
 not_kind t [] apart = tt
 not_kind t (u ∷ ts) apart = λ e. apart (ap kind_of e)
 
-in_front : (t : TheToken) (place : Place) (ts us : List Spanned) → Stands t place ts us → IsNotBefore t ts → ⊥
+pub in_front : (t : TheToken) (place : Place) (ts us : List Spanned) → Stands t place ts us → IsNotBefore t ts → ⊥
 in_front t place [] us s not = absurd cc
 in_front t place (u ∷ ts) us s not = let e = s.parts in let same : u ≡ s.first = cc in not (ap (λ (z : Spanned). z.token) same ∙ s.is)
 
