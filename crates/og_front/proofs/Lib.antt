@@ -8,7 +8,6 @@ pub mod Least
 pub mod Loops
 pub mod NameTables
 pub mod OneAnswer
-pub mod Repeats
 pub mod Resolving
 pub mod Sentences
 pub mod ShortNames

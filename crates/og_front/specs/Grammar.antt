@@ -9,6 +9,7 @@ use Rattle.og_lexer.specs.declared.Mark.{Mark}
 use Rattle.og_lexer.specs.declared.Mark.TheVariants.{Semicolon, Comma}
 use Rattle.og_lexer.specs.declared.Spanned.{Spanned}
 use Rattle.og_lexer.specs.declared.Token.TheVariants as token
+use Rattle.og_grammar.specs.Reading.{Begins as BeginsBy}
 use Rattle.og_grammar.specs.Sentence.{Spells as Derived}
 use Rattle.og_front.specs.declared.grammar.TheConstants.{GRAMMAR, LAST}
 use Rattle.og_front.specs.Reading.{kinds_of, tree_of}
@@ -37,8 +38,7 @@ IsSo Last t = t.token ≡ token.End
 
 -- tokens of these forms stand in front, and then the rest
 abbrev pub Begins : List Form → List Spanned → List Spanned → Type 0
-Begins [] tokens rest = tokens ≡ rest
-Begins (form ∷ forms) tokens rest = (t : Spanned) × (more : List Spanned) × (tokens ≡ t ∷ more) × IsSo form t × Begins forms more rest
+Begins forms tokens rest = BeginsBy IsSo forms tokens rest
 
 -- NEXTSTATE name ;
 abbrev pub next_forms : NextText → List Form

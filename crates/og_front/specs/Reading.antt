@@ -1,6 +1,6 @@
 -- The tree of a model file as a function of its derivation and its tokens: each part is made of the choices and the tokens in
 -- front, and hands on those behind. Where tokens or choices are missing something is made all the same; a derivation has them.
-use Rattle.std.specs.Prelude.{ℕ, zero, suc, ◌%◌, Bool, true, false, List, [], ◌∷◌, length, map, Option, Some, None, position, if◌then◌else◌, ◌==◌}
+use Rattle.std.specs.Prelude.{ℕ, ◌%◌, Bool, true, false, List, [], ◌∷◌, map, Option, Some, None, position}
 use denote.Enum.Bare.{sameb}
 use Rattle.og_base.specs.declared.Place.{Place}
 use Rattle.og_names.specs.declared.Word.{Word}
@@ -11,6 +11,7 @@ use Rattle.og_lexer.specs.declared.Mark.{Mark}
 use Rattle.og_lexer.specs.declared.Spanned.{Spanned}
 use Rattle.og_lexer.specs.declared.Token.{Token}
 use Rattle.og_lexer.specs.declared.Token.TheVariants as token
+use Rattle.og_grammar.specs.Reading.{Take, behind, after, many}
 use Rattle.og_front.specs.declared.parse.ParseError.{ParseError}
 use Rattle.og_front.specs.declared.parse.ParseError.TheVariants.{NoSentence, NoMemory}
 use Rattle.og_front.specs.declared.parse.Fixed.{Fixed}
@@ -59,23 +60,7 @@ kind_of t = kind_by (fixed_place t)
 abbrev pub kinds_of : List Spanned → List ℕ
 kinds_of tokens = map (λ t. kind_of t.token) tokens
 
--- ---- choices and tokens
-
--- a part is made of the choices and the tokens in front; those behind are handed on
-abbrev pub Take : Type 0 → Type 0
-Take X = List ℕ → List Spanned → X × List ℕ × List Spanned
-
-abbrev pub behind : List Spanned → List Spanned
-behind [] = []
-behind (t ∷ ts) = ts
-
-abbrev pub after : List ℕ → List ℕ
-after [] = []
-after (c ∷ cs) = cs
-
-abbrev pub goes_on : List ℕ → Bool
-goes_on [] = false
-goes_on (c ∷ cs) = c == 1
+-- ---- tokens
 
 abbrev pub place_in : List Spanned → Place
 place_in [] = record { file = 0; line = 0; column = 0 }
@@ -92,58 +77,47 @@ word_in (t ∷ ts) = word_by t.token
 abbrev pub name_in : List Spanned → Ident
 name_in tokens = record { place = place_in tokens; word = word_in tokens }
 
--- a part as often as the choices say, up to this number
-unfoldable pub repeated : {X : Type 0} → Take X → ℕ → Take (List X)
-repeated p zero choices tokens = ([], choices, tokens)
-repeated p (suc n) choices tokens =
-    if goes_on choices then (let x = p (after choices) tokens in let xs = repeated p n x.1 x.2 in (x.0 ∷ xs.0, xs.1, xs.2))
-    else ([], after choices, tokens)
-
--- as often as the choices say: not more than there are choices
-unfoldable pub many : {X : Type 0} → Take X → Take (List X)
-many p choices tokens = repeated p (length choices) choices tokens
-
 -- ---- the parts
 
 -- NEXTSTATE name ;
-unfoldable pub next_at : Take NextText
+unfoldable pub next_at : Take Spanned NextText
 next_at choices tokens = (record { place = place_in tokens; state = name_in (behind tokens) }, after choices, behind (behind (behind tokens)))
 
 -- OUTPUT name ;
-unfoldable pub output_at : Take Ident
+unfoldable pub output_at : Take Spanned Ident
 output_at choices tokens = (name_in (behind tokens), after choices, behind (behind (behind tokens)))
 
 -- INPUT name ; { output } next
-unfoldable pub input_at : Take InputText
+unfoldable pub input_at : Take Spanned InputText
 input_at choices tokens =
     let outputs = many output_at (after choices) (behind (behind (behind tokens))) in
     let next = next_at outputs.1 outputs.2 in
     (record { place = place_in tokens; signal = name_in (behind tokens); outputs = outputs.0; next = next.0 }, next.1, next.2)
 
 -- STATE name ; { input } ENDSTATE ;
-unfoldable pub state_at : Take StateText
+unfoldable pub state_at : Take Spanned StateText
 state_at choices tokens =
     let inputs = many input_at (after choices) (behind (behind (behind tokens))) in
     (record { name = name_in (behind tokens); inputs = inputs.0 }, inputs.1, behind (behind inputs.2))
 
 -- , name
-unfoldable pub further_at : Take Ident
+unfoldable pub further_at : Take Spanned Ident
 further_at choices tokens = (name_in (behind tokens), after choices, behind (behind tokens))
 
 -- SIGNAL name { , name } ;
-unfoldable pub signal_at : Take SignalText
+unfoldable pub signal_at : Take Spanned SignalText
 signal_at choices tokens =
     let others = many further_at (after choices) (behind (behind tokens)) in
     (record { first = name_in (behind tokens); others = others.0 }, others.1, behind others.2)
 
 -- START ; next
-unfoldable pub start_at : Take StartText
+unfoldable pub start_at : Take Spanned StartText
 start_at choices tokens =
     let next = next_at (after choices) (behind (behind tokens)) in
     (record { place = place_in tokens; next = next.0 }, next.1, next.2)
 
 -- SYSTEM name ; { signal } BLOCK name ; PROCESS name ; start { state } and the closings
-unfoldable pub system_at : Take SystemText
+unfoldable pub system_at : Take Spanned SystemText
 system_at choices tokens =
     let signals = many signal_at (after choices) (behind (behind (behind tokens))) in
     let process = behind (behind (behind signals.2)) in

@@ -9,7 +9,7 @@ ghost use Rattle.og_model.specs.WellFormed.{IsWellFormed};
 ghost use Rattle.og_front.specs.declared.syntax.SystemText.{SystemText};
 ghost use Rattle.og_front.specs.Examples.{two_states, two_states_model, two_headers, two_headers_model};
 ghost use Rattle.og_front.specs.Files.{IsAccepted, IsRefused, FirstViolation};
-ghost use Rattle.og_front.specs.Grammar.{Spells};
+ghost use Rattle.og_front.specs.Grammar.{Begins, system_forms, Spells};
 ghost use Rattle.og_front.specs.ModelOf.{model_of_tree};
 ghost use Rattle.og_front.specs.Names.{HasShortNames};
 ghost use Rattle.og_front.specs.Rules.{first_of_rules};
@@ -33,6 +33,11 @@ pub fn first_is_least()
     ensures among { (violations : List Violation) (v : Violation) → first_of violations ≡ Some v → Contains violations v }
     ensures least { (violations : List Violation) (v w : Violation) → first_of violations ≡ Some v → Contains violations w → comes_before w v ≡ false }
     ensures none { (violations : List Violation) → (first_of violations ≡ None) ↔ (violations ≡ []) }
+{}
+
+/// The sentences of the table are exactly the texts of the productions, each with its tree.
+pub fn sentences_are_texts()
+    ensures { (system : SystemText) (tokens : List Spanned) → Spells system tokens ↔ Begins (system_forms system) tokens [] }
 {}
 
 /// The names of a file whose tokens stand in their places are short.

@@ -13,7 +13,7 @@ mod syntax;
 pub use build::model_of;
 pub use laws::{
     first_is_least, models_are_well_formed, models_of_trees, names_are_short, one_answer,
-    trees_are_written,
+    sentences_are_texts, trees_are_written,
 };
 pub use parse::{ParseError, parse_system};
 pub use rules::{Tables, first_violation, tables_of};

@@ -2,11 +2,12 @@
 //! and the tree is built from its choices and the tokens.
 ghost use Rattle.std.specs.Prelude.{◌≡◌, ℕ, List, IfOk, IsErrOf, length, map};
 ghost use Rattle.og_lexer.specs.declared.Spanned.{Spanned};
+ghost use Rattle.og_grammar.specs.Reading.{behind, after, goes_on, many};
 ghost use Rattle.og_grammar.specs.Sentence.{Spells as Derived};
 ghost use Rattle.og_front.specs.declared.grammar.TheConstants.{GRAMMAR, LAST};
 ghost use Rattle.og_front.specs.Grammar.{Spells};
 ghost use Rattle.og_front.specs.declared.parse.ParseError.TheVariants as failed;
-ghost use Rattle.og_front.specs.Reading.{IsOutOfMemory, is_fixed, fixed_place, kind_of, kinds_of, behind, after, place_in, word_in, name_in, goes_on, many, next_at, output_at, input_at, state_at, further_at, signal_at, start_at, system_at, tree_of};
+ghost use Rattle.og_front.specs.Reading.{IsOutOfMemory, is_fixed, fixed_place, kind_of, kinds_of, place_in, word_in, name_in, next_at, output_at, input_at, state_at, further_at, signal_at, start_at, system_at, tree_of};
 
 use crate::grammar::{GRAMMAR, LAST, PARTS};
 use crate::kind::FORMS;
@@ -155,7 +156,7 @@ fn system_of<'a>(
 }
 
 /// The signals.
-#[tactic(auto, using(crate::proofs::Repeats::turns))]
+#[tactic(auto, using(og_grammar::proofs::Repeats::turns))]
 fn signals_of<'a>(
     alloc: Global,
     choices: &'a [u8],
@@ -193,7 +194,7 @@ fn signal_of<'a>(
 }
 
 /// The names behind a comma each.
-#[tactic(auto, using(crate::proofs::Repeats::turns))]
+#[tactic(auto, using(og_grammar::proofs::Repeats::turns))]
 fn furthers_of<'a>(
     alloc: Global,
     choices: &'a [u8],
@@ -244,7 +245,7 @@ fn start_of<'a>(
 }
 
 /// The states.
-#[tactic(auto, using(crate::proofs::Repeats::turns))]
+#[tactic(auto, using(og_grammar::proofs::Repeats::turns))]
 fn states_of<'a>(
     alloc: Global,
     choices: &'a [u8],
@@ -286,7 +287,7 @@ fn state_of<'a>(
 }
 
 /// The inputs of a state.
-#[tactic(auto, using(crate::proofs::Repeats::turns))]
+#[tactic(auto, using(og_grammar::proofs::Repeats::turns))]
 fn inputs_of<'a>(
     alloc: Global,
     choices: &'a [u8],
@@ -336,7 +337,7 @@ fn input_of<'a>(
 }
 
 /// The outputs of an input.
-#[tactic(auto, using(crate::proofs::Repeats::turns))]
+#[tactic(auto, using(og_grammar::proofs::Repeats::turns))]
 fn outputs_of<'a>(
     alloc: Global,
     choices: &'a [u8],

@@ -14,3 +14,5 @@ pub mod Deriving
 pub mod Unique
 pub mod Limits
 pub mod Each
+pub mod Repeats
+pub mod Readers

@@ -1,6 +1,7 @@
 use Rattle.std.proofs.Common.{◌-◌}
-use Rattle.og_front.specs.Reading.{further_at, many}
-use Rattle.og_front.proofs.Repeats.{SoFar}
+use Rattle.og_grammar.specs.Reading.{many}
+use Rattle.og_grammar.proofs.Repeats.{SoFar}
+use Rattle.og_front.specs.Reading.{further_at}
 use Rattle.og_front.proofs.parse.furthers_of.Given as goal
 
 abbrev pub invariant-loop : goal.invariant-loop
