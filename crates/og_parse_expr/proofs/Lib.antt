@@ -1,0 +1,3 @@
+pub mod Rules
+pub mod ReadExpressions
+pub mod WrittenExpressions

@@ -1,0 +1,6 @@
+pub mod Turns
+pub mod Naming
+pub mod KindsOfTokens
+pub mod Deriving
+pub mod ReadParts
+pub mod WrittenParts
