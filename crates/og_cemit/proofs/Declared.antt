@@ -11,7 +11,8 @@ use Rattle.og_ir.specs.declared.FlatFn.{FlatFn}
 use Rattle.og_csubset.specs.Kinds.{place_in, is_in, event_names, function_names}
 use Rattle.og_csubset.specs.FlatRun.{slot_names, flat_function_names}
 use Rattle.og_csubset.specs.Fair.{Fair}
-use Rattle.og_cemit.specs.Emitted.{is_marked, used, event_if, events_from, program_of, AreShort}
+use Rattle.og_cemit.specs.Marks.{is_marked}
+use Rattle.og_cemit.specs.Emitted.{used, event_if, events_from, program_of, AreShort}
 use Rattle.og_cemit.proofs.Names.{get_map, same_bytes, place_at_self, is_in_at, is_in-append}
 use Rattle.og_cemit.proofs.Parts.{function_names_are, flat_event_names, functions_apart}
 use Rattle.og_cemit.proofs.Tests.{false_by}
@@ -66,14 +67,14 @@ short_at (x ∷ functions) (suc k) g h e = short_at functions k g h.1 e
 
 -- a name of a function is no event of the program
 pub not_event : (ir : Ir) (model : Model) → Fair ir model → (k : ℕ) (g : FlatFn) → slice_get ir.functions k ≡ Some g
-    → is_in g.name.bytes (event_names (program_of ir)) ≡ false
+    → is_in g.name.bytes (event_names (program_of ir model)) ≡ false
 not_event ir model fair k g e = false_by _ (λ h.
     let inside : is_in g.name.bytes (slot_names ir ++ flat_event_names ir) ≡ true =
     is_in-append g.name.bytes (slot_names ir) (flat_event_names ir) ∙ or_second (is_in g.name.bytes (slot_names ir)) _ (events_sub (used ir) 0 ir.events g.name.bytes h) in
     false≢true (sym ((functions_apart ir model fair).apart g.name.bytes inside) ∙ is_in_at (flat_function_names ir) k g.name.bytes (get_map (λ (x : FlatFn). x.name.bytes) ir.functions k ∙ ap (option_map (λ (x : FlatFn). x.name.bytes)) e)))
 
 pub function_placed : (ir : Ir) (model : Model) → Fair ir model → (k : ℕ) (g : FlatFn) → slice_get ir.functions k ≡ Some g
-    → place_in g.name.bytes (function_names (program_of ir)) ≡ Some k
+    → place_in g.name.bytes (function_names (program_of ir model)) ≡ Some k
 function_placed ir model fair k g e =
-    ap (place_in g.name.bytes) (function_names_are ir)
+    ap (place_in g.name.bytes) (function_names_are ir model)
     ∙ place_at_self (flat_function_names ir) k g.name.bytes (functions_apart ir model fair).right (get_map (λ (x : FlatFn). x.name.bytes) ir.functions k ∙ ap (option_map (λ (x : FlatFn). x.name.bytes)) e)

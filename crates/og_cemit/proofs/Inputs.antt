@@ -1,5 +1,5 @@
--- What comes from outside keeps each slot one number.
-use Rattle.std.proofs.Common.{◌≡◌, ℕ, zero, suc, ◌+◌, List, [], ◌∷◌, ◌++◌, Bool, true, false, cond, Option, Some, None, slice_get, refl, sym, ap, ◌∙◌, arith}
+-- What comes from outside keeps the shape of each slot.
+use Rattle.std.proofs.Common.{eqb-true, ◌≡◌, ℕ, zero, suc, ◌+◌, pos, List, [], ◌∷◌, ◌++◌, Bool, true, false, cond, Option, Some, None, slice_get, refl, sym, ap, ◌∙◌, arith}
 use Rattle.std.specs.List.{list_all, flat_map}
 use Rattle.std.proofs.lemmas.Bool.{false≢true}
 use Rattle.std.proofs.lemmas.Option.{none-some}
@@ -16,97 +16,100 @@ use Rattle.og_ir.specs.declared.Ir.{Ir}
 use Rattle.og_ir.specs.declared.SlotDef.{SlotDef}
 use Rattle.og_ir.specs.declared.SlotSort.{SlotSort}
 use Rattle.og_ir.specs.declared.SlotSort.TheVariants as slot_sort
-use Rattle.og_ir.specs.CellsOnly.{is_cell, UsesCellsOnly}
-use Rattle.og_ir.specs.Cells.{◌>>=◌, Cells, cells_by}
-use Rattle.og_ir.specs.Reading.{write_sort, write_within, blank_within, cells_of}
+use Rattle.og_ir.specs.Cells.{◌>>=◌, Cells, Cell, cells_by}
+use Rattle.og_ir.specs.Reading.{blank_sort, blank}
+use Rattle.og_ir.specs.FlatSteps.{blank_slot, first_slots}
+use Rattle.og_types.specs.Values.{IsDownward}
+use Rattle.og_types.proofs.Tables.{tables_are_downward}
 use Rattle.og_csubset.specs.Kinds.{place_in}
 use Rattle.og_csubset.specs.Interface as interface
 use Rattle.og_csubset.specs.Interface.{Shape, Typed, Field, incoming_from, incoming, inputs_of, control_fields, variable_fields, timer_fields, fields_of}
 use Rattle.og_csubset.specs.Reads.{put_numbered, put_named, cells_of_shape, inputs_set}
 use Rattle.og_csubset.specs.FlatRun.{slot_names}
-use Rattle.og_csubset.specs.Fair.{Fair, Held, One, held_by, held_as, held_in_slot, held_in_shape, joins, is_one, has_slot}
+use Rattle.og_csubset.specs.Fair.{Fair, Held, One, Whole, Array, held_by, held_as, held_in_slot, held_in_shape, joins, is_one, has_slot}
 use Rattle.og_csubset.proofs.Steady.{all_at}
-use Rattle.og_cemit.proofs.Values.{is_number_cell, HoldNumbers}
-use Rattle.og_cemit.proofs.Configurations.{put_holds}
+use Rattle.og_cemit.proofs.Values.{HoldShapes, first_at}
+use Rattle.og_cemit.proofs.Shapes.{zeroed, value_zeroed, global_keeps}
+use Rattle.og_cemit.proofs.Structures.{blank_is, one_cell, held_type}
 use Rattle.og_names.proofs.Truths.{both_first as left_of, both_second as right_of}
 
--- ---- a field of the interface is one number
+-- ---- a field has the shape of its slot
 
-sort_number : (t : TypeId) (s : Sort) (blank : TypeId → Cells) (write : TypeId → Value → Cells) (v : Value-F Value)
-    → is_one (held_by t s) ≡ true → is_number_cell (write_sort blank write s v) ≡ true
-sort_number t (sort.Int lo hi) blank write (value.Int n) h = refl
-sort_number t (sort.Int lo hi) blank write v h = refl
-sort_number t sort.Bool blank write (value.Bool b) h = refl
-sort_number t sort.Bool blank write v h = refl
-sort_number t (sort.Enumerated names numbers) blank write (value.Enumerated k) h = refl
-sort_number t (sort.Enumerated names numbers) blank write v h = refl
-sort_number t (sort.Sequence []) blank write (value.Sequence vs) h = refl
-sort_number t (sort.Sequence []) blank write v h = refl
-sort_number t (sort.Sequence (p ∷ parts)) blank write v h = absurd (false≢true h)
-sort_number t (sort.Choice parts) blank write v h = absurd (false≢true h)
-sort_number t (sort.SeqOf lo hi item) blank write v h = absurd (false≢true h)
-sort_number t sort.Opaque blank write v h = absurd (false≢true h)
+shape_of : List Sort → Shape → Cells
+shape_of sorts interface.Number = Cell (pos 0)
+shape_of sorts (Typed t) = blank sorts t
 
-type_number : (sorts : List Sort) (t : TypeId) (v : Value) → is_one (held_as sorts t) ≡ true → is_number_cell (cells_of sorts t v) ≡ true
-unfolding cells_of
-type_number sorts t v h =
-    ap (λ d. is_number_cell (write_within d sorts t v)) next ∙ by_sort (slice_get sorts t.0) h
+written_shape : (model : Model) (shape : Shape) (v : Value) → zeroed (cells_of_shape model shape v) ≡ shape_of model.types shape
+unfolding shape_of
+written_shape model interface.Number v = refl
+written_shape model (Typed t) v = value_zeroed model.types t v
+
+one_blank : (sorts : List Sort) → IsDownward sorts → (t : TypeId) → is_one (held_as sorts t) ≡ true → blank sorts t ≡ Cell (pos 0)
+one_blank sorts down t h = by_sort (slice_get sorts t.0) refl h
   where
-    next : t.0 + 1 ≡ suc t.0
-    next = omega arith
+    by_sort : (o : Option Sort) → slice_get sorts t.0 ≡ o → is_one (o >>= held_by t) ≡ true → blank sorts t ≡ Cell (pos 0)
+    by_sort None e q = absurd (false≢true q)
+    by_sort (Some s) e q = blank_is sorts down t ∙ ap (cells_by (blank_sort (blank sorts))) e ∙ one_cell t (blank sorts) s q
 
-    by_sort : (o : Option Sort) → is_one (o >>= held_by t) ≡ true
-        → is_number_cell (cells_by (λ s. write_sort (blank_within t.0 sorts) (write_within t.0 sorts) s (out-Value v)) o) ≡ true
-    by_sort None h' = absurd (false≢true h')
-    by_sort (Some s) h' = sort_number t s (blank_within t.0 sorts) (write_within t.0 sorts) (out-Value v) h'
-
-shape_number : (model : Model) (shape : Shape) (v : Value) → is_one (held_in_shape model.types shape) ≡ true
-    → is_number_cell (cells_of_shape model shape v) ≡ true
-shape_number model interface.Number v h = refl
-shape_number model (Typed t) v h = type_number model.types t v h
-
--- where all slots are cells, a field with a slot is one number
-pub field_number : (ir : Ir) (cells : UsesCellsOnly ir) (sorts : List Sort) (field : Field) → has_slot sorts ir field ≡ true
-    → is_one (held_in_shape sorts field.shape) ≡ true
-field_number ir cells sorts field h = by_place (place_in field.name (slot_names ir)) h
+joined_shape : (sorts : List Sort) → IsDownward sorts → (s : SlotSort) (shape : Shape)
+    → joins (held_in_slot sorts s) (held_in_shape sorts shape) ≡ true → shape_of sorts shape ≡ blank_slot sorts s
+unfolding shape_of
+joined_shape sorts down slot_sort.Cell interface.Number h = refl
+joined_shape sorts down slot_sort.Cell (Typed t) h = one_blank sorts down t (by_held (held_as sorts t) h)
   where
-    joined : (o : Option Held) → joins (Some One) o ≡ true → is_one o ≡ true
-    joined None e = absurd (false≢true e)
-    joined (Some held) e = e
-
-    by_sort : (s : SlotSort) → is_cell s ≡ true → joins (held_in_slot sorts s) (held_in_shape sorts field.shape) ≡ true
-        → is_one (held_in_shape sorts field.shape) ≡ true
-    by_sort slot_sort.Cell e h' = joined (held_in_shape sorts field.shape) h'
-    by_sort (slot_sort.Shaped t) e h' = absurd (false≢true e)
-
-    by_slot : (k : ℕ) (o : Option SlotDef) → slice_get ir.slots k ≡ o
-        → joins (o >>= λ def. held_in_slot sorts def.sort) (held_in_shape sorts field.shape) ≡ true
-        → is_one (held_in_shape sorts field.shape) ≡ true
-    by_slot k None e h' = absurd (false≢true h')
-    by_slot k (Some def) e h' = by_sort def.sort (all_at (λ (x : SlotDef). is_cell x.sort) ir.slots k def cells.slots e) h'
-
-    by_place : (o : Option ℕ)
-        → joins (o >>= slice_get ir.slots >>= λ def. held_in_slot sorts def.sort) (held_in_shape sorts field.shape) ≡ true
-        → is_one (held_in_shape sorts field.shape) ≡ true
-    by_place None h' = absurd (false≢true h')
-    by_place (Some k) h' = by_slot k (slice_get ir.slots k) refl h'
+    by_held : (o : Option Held) → joins (Some One) o ≡ true → is_one o ≡ true
+    by_held None q = absurd (false≢true q)
+    by_held (Some x) q = q
+joined_shape sorts down (slot_sort.Shaped u) interface.Number h = sym (one_blank sorts down u (by_held (held_as sorts u) h))
+  where
+    by_held : (o : Option Held) → joins o (Some One) ≡ true → is_one o ≡ true
+    by_held None q = absurd (false≢true q)
+    by_held (Some One) q = q
+    by_held (Some (Whole t)) q = q
+    by_held (Some (Array t)) q = q
+joined_shape sorts down (slot_sort.Shaped u) (Typed t) h = by_held (held_as sorts u) (held_as sorts t) refl refl h
+  where
+    by_held : (o o' : Option Held) → held_as sorts u ≡ o → held_as sorts t ≡ o' → joins o o' ≡ true → blank sorts t ≡ blank sorts u
+    by_held None o' e e' q = absurd (false≢true q)
+    by_held (Some x) None e e' q = absurd (false≢true q)
+    by_held (Some One) (Some y) e e' q = one_blank sorts down t (ap is_one e' ∙ q) ∙ sym (one_blank sorts down u (ap is_one e))
+    by_held (Some (Whole v)) (Some One) e e' q = absurd (false≢true q)
+    by_held (Some (Whole v)) (Some (Whole w)) e e' q =
+        let here : v ≡ u = held_type sorts u v e in
+        let there : w ≡ t = held_type sorts t w e' in
+        ap (blank sorts) (sym there) ∙ ap (λ n. blank sorts (record { 0 = n })) (sym (eqb-true v.0 w.0 q)) ∙ ap (blank sorts) here
+    by_held (Some (Whole v)) (Some (Array w)) e e' q = absurd (false≢true q)
+    by_held (Some (Array v)) (Some y) e e' q = absurd (false≢true q)
 
 -- ---- inputs
 
-put_named_holds : (ir : Ir) (slots : List Cells) → HoldNumbers ir slots → (o : Option ℕ) (new : Cells) → is_number_cell new ≡ true
-    → HoldNumbers ir (put_numbered o new slots)
-put_named_holds ir slots hold None new h = hold
-put_named_holds ir slots hold (Some k) new h = put_holds ir slots hold (record { base = k; path = [] }) new h
+named_keeps : (ir : Ir) (model : Model) → Fair ir model → (slots : List Cells) → HoldShapes ir model slots → (field : Field) (v : Value)
+    → has_slot model.types ir field ≡ true
+    → HoldShapes ir model (put_named (slot_names ir) field.name (cells_of_shape model field.shape v) slots)
+named_keeps ir model fair slots hold field v h = by_place (place_in field.name (slot_names ir)) h
+  where
+    by_slot : (k : ℕ) (o : Option SlotDef) → slice_get ir.slots k ≡ o
+        → joins (o >>= λ def. held_in_slot model.types def.sort) (held_in_shape model.types field.shape) ≡ true
+        → HoldShapes ir model (put_numbered (Some k) (cells_of_shape model field.shape v) slots)
+    by_slot k None e q = absurd (false≢true q)
+    by_slot k (Some def) e q =
+        global_keeps slots (first_slots model.types ir) k (cells_of_shape model field.shape v) hold
+        (first_at ir model k def e ∙ ap Some (sym (written_shape model field.shape v ∙ joined_shape model.types (tables_are_downward model.types fair.types) def.sort field.shape q)))
 
-inputs_hold : (ir : Ir) (cells : UsesCellsOnly ir) (model : Model) (names : List (List ℕ)) (fields : List Field) (vs : List Value) (slots : List Cells)
-    → list_all (has_slot model.types ir) fields ≡ true → HoldNumbers ir slots → HoldNumbers ir (inputs_set model names fields vs slots)
-inputs_hold ir cells model names [] vs slots all hold = hold
-inputs_hold ir cells model names (field ∷ fields) [] slots all hold = hold
-inputs_hold ir cells model names (field ∷ fields) (v ∷ vs) slots all hold =
-    inputs_hold ir cells model names fields vs (put_named names field.name (cells_of_shape model field.shape v) slots)
+    by_place : (o : Option ℕ)
+        → joins (o >>= slice_get ir.slots >>= λ def. held_in_slot model.types def.sort) (held_in_shape model.types field.shape) ≡ true
+        → HoldShapes ir model (put_numbered o (cells_of_shape model field.shape v) slots)
+    by_place None q = hold
+    by_place (Some k) q = by_slot k (slice_get ir.slots k) refl q
+
+inputs_hold : (ir : Ir) (model : Model) → Fair ir model → (fields : List Field) (vs : List Value) (slots : List Cells)
+    → list_all (has_slot model.types ir) fields ≡ true → HoldShapes ir model slots → HoldShapes ir model (inputs_set model (slot_names ir) fields vs slots)
+inputs_hold ir model fair [] vs slots all hold = hold
+inputs_hold ir model fair (field ∷ fields) [] slots all hold = hold
+inputs_hold ir model fair (field ∷ fields) (v ∷ vs) slots all hold =
+    inputs_hold ir model fair fields vs (put_named (slot_names ir) field.name (cells_of_shape model field.shape v) slots)
     (right_of (has_slot model.types ir field) (list_all (has_slot model.types ir) fields) all)
-    (put_named_holds ir slots hold (place_in field.name names) (cells_of_shape model field.shape v)
-    (shape_number model field.shape v (field_number ir cells model.types field (left_of (has_slot model.types ir field) (list_all (has_slot model.types ir) fields) all))))
+    (named_keeps ir model fair slots hold field v (left_of (has_slot model.types ir field) (list_all (has_slot model.types ir) fields) all))
 
 all_incoming : (q : Field → Bool) (inputs : ℕ → List Field) (from : ℕ) (signals : List Signal) (k : ℕ) (signal : Signal)
     → list_all q (flat_map inputs (incoming_from from signals)) ≡ true → slice_get signals k ≡ Some signal → signal.incoming ≡ true
@@ -138,11 +141,11 @@ all_incoming q inputs from (x ∷ signals) (suc k) signal all e h =
     by_test true all' =
         right_of (list_all q (inputs from)) (list_all q (flat_map inputs (incoming_from (from + 1) signals))) (sym (list_all-append q (inputs from) (flat_map inputs (incoming_from (from + 1) signals))) ∙ all')
 
-pub signal_holds : (ir : Ir) (model : Model) → Fair ir model → UsesCellsOnly ir → (k : ℕ) (signal : Signal)
-    → slice_get model.signals k ≡ Some signal → signal.incoming ≡ true → (vs : List Value) (slots : List Cells) → HoldNumbers ir slots
-    → HoldNumbers ir (inputs_set model (slot_names ir) (inputs_of model k) vs slots)
-signal_holds ir model fair cells k signal e h vs slots hold =
-    inputs_hold ir cells model (slot_names ir) (inputs_of model k) vs slots all hold
+pub signal_holds : (ir : Ir) (model : Model) → Fair ir model → (k : ℕ) (signal : Signal)
+    → slice_get model.signals k ≡ Some signal → signal.incoming ≡ true → (vs : List Value) (slots : List Cells) → HoldShapes ir model slots
+    → HoldShapes ir model (inputs_set model (slot_names ir) (inputs_of model k) vs slots)
+signal_holds ir model fair k signal e h vs slots hold =
+    inputs_hold ir model fair (inputs_of model k) vs slots all hold
   where
     zero_plus : k ≡ 0 + k
     zero_plus = omega arith

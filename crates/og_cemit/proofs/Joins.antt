@@ -4,24 +4,26 @@ use Rattle.std.specs.List.{flat_map}
 use Rattle.std.proofs.lemmas.List.{take_more, map-append, length-take}
 use Rattle.std.proofs.lemmas.Grind.{flat_map-append}
 use Rattle.og_names.specs.declared.Word.{Word}
+use Rattle.og_model.specs.declared.Model.{Model}
 use Rattle.og_ir.specs.declared.Ir.{Ir}
 use Rattle.og_ir.specs.declared.FlatFn.{FlatFn}
 use Rattle.og_ir.specs.declared.Instr.{Instr}
 use Rattle.og_csubset.specs.declared.CFunction.{CFunction}
 use Rattle.og_csubset.specs.declared.CStmt.{CStmt}
-use Rattle.og_cemit.specs.Emitted.{marked, all_marked, statements_at, statements_from, event_if, is_marked, events_from, AreShort, function_of}
+use Rattle.og_cemit.specs.Marks.{is_marked, marked, all_marked}
+use Rattle.og_cemit.specs.Emitted.{statements_at, statements_from, event_if, events_from, AreShort, function_of}
 
 pub all_marked_append : (ks ls : List ℕ) (marks : List Bool) → all_marked (ks ++ ls) marks ≡ all_marked ls (all_marked ks marks)
 all_marked_append [] ls marks = refl
 all_marked_append (k ∷ ks) ls marks = all_marked_append ks ls (marked k marks)
 
-pub statements_from-append : (ir : Ir) (f : FlatFn) (marks : List Bool) (place : ℕ) (code more : List Instr)
-    → statements_from ir f marks place (code ++ more) ≡ statements_from ir f marks place code ++ statements_from ir f marks (place + length code) more
-statements_from-append ir f marks place [] more = ap (λ k. statements_from ir f marks k more) (omega arith)
-statements_from-append ir f marks place (i ∷ code) more =
-    ap (λ l. statements_at ir f marks place i ++ l) (statements_from-append ir f marks (place + 1) code more)
-    ∙ sym (append_assoc (statements_at ir f marks place i) (statements_from ir f marks (place + 1) code) (statements_from ir f marks (place + 1 + length code) more))
-    ∙ ap (λ k. statements_from ir f marks place (i ∷ code) ++ statements_from ir f marks k more) (omega arith)
+pub statements_from-append : (ir : Ir) (model : Model) (f : FlatFn) (marks : List Bool) (place : ℕ) (code more : List Instr)
+    → statements_from ir model f marks place (code ++ more) ≡ statements_from ir model f marks place code ++ statements_from ir model f marks (place + length code) more
+statements_from-append ir model f marks place [] more = ap (λ k. statements_from ir model f marks k more) (omega arith)
+statements_from-append ir model f marks place (i ∷ code) more =
+    ap (λ l. statements_at ir model f marks place i ++ l) (statements_from-append ir model f marks (place + 1) code more)
+    ∙ sym (append_assoc (statements_at ir model f marks place i) (statements_from ir model f marks (place + 1) code) (statements_from ir model f marks (place + 1 + length code) more))
+    ∙ ap (λ k. statements_from ir model f marks place (i ∷ code) ++ statements_from ir model f marks k more) (omega arith)
 
 pub events_from-append : (marks : List Bool) (k : ℕ) (names more : List Word)
     → events_from marks k (names ++ more) ≡ events_from marks k names ++ events_from marks (k + length names) more
@@ -65,17 +67,17 @@ event_more marks names i x {now} {next} below is so_far here =
     ∙ ap (λ y. events_from marks 0 (take i names) ++ (event_if (is_marked marks i) y ++ [])) (sym is)
     ∙ ap (λ l. events_from marks 0 (take i names) ++ l) (append-nil (event_if (is_marked marks i) x)))
 
-pub statement_more : (ir : Ir) (f : FlatFn) (marks : List Bool) (code : List Instr) (i : ℕ) (x : Instr) {now next : List CStmt}
-    → i < length code → x ≡ get_or code i x → now ≡ statements_from ir f marks 0 (take i code)
-    → next ≡ now ++ statements_at ir f marks i x → next ≡ statements_from ir f marks 0 (take (i + 1) code)
-statement_more ir f marks code i x {now} {next} below is so_far here =
+pub statement_more : (ir : Ir) (model : Model) (f : FlatFn) (marks : List Bool) (code : List Instr) (i : ℕ) (x : Instr) {now next : List CStmt}
+    → i < length code → x ≡ get_or code i x → now ≡ statements_from ir model f marks 0 (take i code)
+    → next ≡ now ++ statements_at ir model f marks i x → next ≡ statements_from ir model f marks 0 (take (i + 1) code)
+statement_more ir model f marks code i x {now} {next} below is so_far here =
     let long : 0 + length (take i code) ≡ i = simp length-take (omega arith) in
-    here ∙ ap (λ l. l ++ statements_at ir f marks i x) so_far
-    ∙ sym (ap (statements_from ir f marks 0) (take_more code i x below)
-    ∙ statements_from-append ir f marks 0 (take i code) (get_or code i x ∷ [])
-    ∙ ap (λ k. statements_from ir f marks 0 (take i code) ++ statements_from ir f marks k (get_or code i x ∷ [])) long
-    ∙ ap (λ y. statements_from ir f marks 0 (take i code) ++ (statements_at ir f marks i y ++ [])) (sym is)
-    ∙ ap (λ l. statements_from ir f marks 0 (take i code) ++ l) (append-nil (statements_at ir f marks i x)))
+    here ∙ ap (λ l. l ++ statements_at ir model f marks i x) so_far
+    ∙ sym (ap (statements_from ir model f marks 0) (take_more code i x below)
+    ∙ statements_from-append ir model f marks 0 (take i code) (get_or code i x ∷ [])
+    ∙ ap (λ k. statements_from ir model f marks 0 (take i code) ++ statements_from ir model f marks k (get_or code i x ∷ [])) long
+    ∙ ap (λ y. statements_from ir model f marks 0 (take i code) ++ (statements_at ir model f marks i y ++ [])) (sym is)
+    ∙ ap (λ l. statements_from ir model f marks 0 (take i code) ++ l) (append-nil (statements_at ir model f marks i x)))
 
 short_append : (functions more : List FlatFn) → AreShort functions → AreShort more → AreShort (functions ++ more)
 short_append [] more h k = k
@@ -87,10 +89,10 @@ short_more functions i g below is so_far here =
     let one : AreShort (get_or functions i g ∷ []) = subst (λ (x : FlatFn). AreShort (x ∷ [])) is (here, tt) in
     subst AreShort (sym (take_more functions i g below)) (short_append (take i functions) (get_or functions i g ∷ []) so_far one)
 
-pub function_more : (ir : Ir) (functions : List FlatFn) (i : ℕ) (g : FlatFn) {now next : List CFunction} → i < length functions
-    → g ≡ get_or functions i g → now ≡ map (function_of ir) (take i functions) → next ≡ now ++ function_of ir g ∷ []
-    → next ≡ map (function_of ir) (take (i + 1) functions)
-function_more ir functions i g {now} {next} below is so_far here =
-    here ∙ ap (λ l. l ++ function_of ir g ∷ []) so_far
-    ∙ sym (ap (map (function_of ir)) (take_more functions i g below) ∙ map-append (function_of ir) (take i functions) (get_or functions i g ∷ [])
-    ∙ ap (λ (x : FlatFn). map (function_of ir) (take i functions) ++ function_of ir x ∷ []) (sym is))
+pub function_more : (ir : Ir) (model : Model) (functions : List FlatFn) (i : ℕ) (g : FlatFn) {now next : List CFunction} → i < length functions
+    → g ≡ get_or functions i g → now ≡ map (function_of ir model) (take i functions) → next ≡ now ++ function_of ir model g ∷ []
+    → next ≡ map (function_of ir model) (take (i + 1) functions)
+function_more ir model functions i g {now} {next} below is so_far here =
+    here ∙ ap (λ l. l ++ function_of ir model g ∷ []) so_far
+    ∙ sym (ap (map (function_of ir model)) (take_more functions i g below) ∙ map-append (function_of ir model) (take i functions) (get_or functions i g ∷ [])
+    ∙ ap (λ (x : FlatFn). map (function_of ir model) (take i functions) ++ function_of ir model x ∷ []) (sym is))

@@ -11,28 +11,22 @@ use Rattle.og_ir.specs.declared.Ir.{Ir}
 use Rattle.og_ir.specs.declared.FlatFn.{FlatFn}
 use Rattle.og_ir.specs.declared.Instr.{Instr}
 use Rattle.og_ir.specs.declared.Instr.TheVariants as instr
-use Rattle.og_csubset.specs.Kinds.{is_in, event_names, function_names}
+use Rattle.og_csubset.specs.Kinds.{struct_names, is_in, event_names, function_names}
 use Rattle.og_csubset.specs.Loading.{has_twice, all_names, breaks_K3}
 use Rattle.og_csubset.specs.FlatRun.{slot_names, flat_function_names}
 use Rattle.og_csubset.specs.Fair.{names_of, shows_event, is_shown, Fair}
-use Rattle.og_cemit.specs.Emitted.{is_marked, shows, used, event_if, events_from, program_of}
+use Rattle.og_cemit.specs.Marks.{is_marked}
+use Rattle.og_cemit.specs.Emitted.{shows, used, event_if, events_from, program_of}
+use Rattle.og_cemit.specs.Structs.{AreFew}
+use Rattle.og_cemit.proofs.StructNames.{structs_apart, structs_free, members_apart}
 use Rattle.og_cemit.proofs.Names.{same_bytes, equal_bytes, is_in_at, is_in-append, Differ}
 use Rattle.og_cemit.proofs.Marking.{Among, used_shown}
 use Rattle.og_cemit.proofs.Parts.{global_names_are, function_names_are, flat_event_names, functions_apart, slots_apart}
 use Rattle.og_cemit.proofs.Declared.{events_sub}
-use Rattle.og_cemit.proofs.Tests.{false_by}
+use Rattle.og_cemit.proofs.Tests.{false_by, all_append}
 use Rattle.og_names.proofs.Truths.{both_first as left_of, both_second as right_of, both_true as both, either_first as or_first, either_second as or_second, either_true as either, neither_first as or_left, neither_second as or_right, neither_true as neither}
 
 -- ---- lists
-
--- what holds of each item holds of all
-pub all_by : {A : Type 0} (q : A → Bool) (xs : List A) → ((j : ℕ) (x : A) → slice_get xs j ≡ Some x → q x ≡ true) → list_all q xs ≡ true
-all_by q [] h = refl
-all_by q (x ∷ xs) h = both (q x) (list_all q xs) (h 0 x refl) (all_by q xs (λ j y e. h (suc j) y e))
-
-pub all_append : {A : Type 0} (q : A → Bool) (xs ys : List A) → list_all q xs ≡ true → list_all q ys ≡ true → list_all q (xs ++ ys) ≡ true
-all_append q [] ys h k = k
-all_append q (x ∷ xs) ys h k = both (q x) _ (left_of (q x) _ h) (all_append q xs ys (right_of (q x) _ h) k)
 
 pub all_each : {A B : Type 0} (q : B → Bool) (f : A → List B) (xs : List A) → list_all (λ x. list_all q (f x)) xs ≡ true
     → list_all q (flat_map f xs) ≡ true
@@ -74,50 +68,88 @@ events_twice marks k (w ∷ names) h =
 
 module _ (ir : Ir) (model : Model) (fair : Fair ir model) where
   -- the events of the program are among those of the code
-  pub event_is_flat : (name : List ℕ) → is_in name (event_names (program_of ir)) ≡ true → is_in name (flat_event_names ir) ≡ true
+  pub event_is_flat : (name : List ℕ) → is_in name (event_names (program_of ir model)) ≡ true → is_in name (flat_event_names ir) ≡ true
   event_is_flat name h = events_sub (used ir) 0 ir.events name h
 
-  front_is_flat : (name : List ℕ) → is_in name (slot_names ir ++ event_names (program_of ir)) ≡ true
+  front_is_flat : (name : List ℕ) → is_in name (slot_names ir ++ event_names (program_of ir model)) ≡ true
       → is_in name (slot_names ir ++ flat_event_names ir) ≡ true
-  front_is_flat name h = is_in-append name (slot_names ir) (flat_event_names ir) ∙ by_side (either (is_in name (slot_names ir)) (is_in name (event_names (program_of ir))) (sym (is_in-append name (slot_names ir) (event_names (program_of ir))) ∙ h))
+  front_is_flat name h = is_in-append name (slot_names ir) (flat_event_names ir) ∙ by_side (either (is_in name (slot_names ir)) (is_in name (event_names (program_of ir model))) (sym (is_in-append name (slot_names ir) (event_names (program_of ir model))) ∙ h))
     where
-      by_side : (is_in name (slot_names ir) ≡ true) ⊎ (is_in name (event_names (program_of ir)) ≡ true)
+      by_side : (is_in name (slot_names ir) ≡ true) ⊎ (is_in name (event_names (program_of ir model)) ≡ true)
           → (is_in name (slot_names ir) || is_in name (flat_event_names ir)) ≡ true
       by_side (inl e) = or_first (is_in name (slot_names ir)) (is_in name (flat_event_names ir)) e
       by_side (inr e) = or_second (is_in name (slot_names ir)) (is_in name (flat_event_names ir)) (event_is_flat name e)
 
-  pub all_names_are : all_names (program_of ir) ≡ (slot_names ir ++ event_names (program_of ir)) ++ flat_function_names ir
+  pub all_names_are : all_names (program_of ir model) ≡ ((struct_names (program_of ir model) ++ slot_names ir) ++ event_names (program_of ir model)) ++ flat_function_names ir
   all_names_are =
-      ap (λ names. (names ++ event_names (program_of ir)) ++ function_names (program_of ir)) (global_names_are ir)
-      ∙ ap (λ names. (slot_names ir ++ event_names (program_of ir)) ++ names) (function_names_are ir)
+      ap (λ names. ((struct_names (program_of ir model) ++ names) ++ event_names (program_of ir model)) ++ function_names (program_of ir model)) (global_names_are ir model)
+      ∙ ap (λ names. ((struct_names (program_of ir model) ++ slot_names ir) ++ event_names (program_of ir model)) ++ names) (function_names_are ir model)
 
-  -- what has no name of the code has none of the program
-  pub free_name : (name : List ℕ) → is_in name (names_of ir) ≡ false → is_in name (all_names (program_of ir)) ≡ false
-  free_name name h =
-      ap (is_in name) all_names_are ∙ is_in-append name (slot_names ir ++ event_names (program_of ir)) (flat_function_names ir)
+  -- what has no name of the code, and none of a struct, has none of the program
+  pub free_name : (name : List ℕ) → is_in name (names_of ir) ≡ false → is_in name (struct_names (program_of ir model)) ≡ false
+      → is_in name (all_names (program_of ir model)) ≡ false
+  free_name name h k =
+      ap (is_in name) all_names_are ∙ is_in-append name ((struct_names (program_of ir model) ++ slot_names ir) ++ event_names (program_of ir model)) (flat_function_names ir)
       ∙ neither _ _
-      (false_by _ (λ e. false≢true (sym (or_left (is_in name (slot_names ir ++ flat_event_names ir)) (is_in name (flat_function_names ir)) split) ∙ front_is_flat name e)))
+      (is_in-append name (struct_names (program_of ir model) ++ slot_names ir) (event_names (program_of ir model)) ∙ neither _ _
+      (is_in-append name (struct_names (program_of ir model)) (slot_names ir) ∙ neither _ _ k (or_left _ _ front))
+      (false_by _ (λ e. false≢true (sym (or_right (is_in name (slot_names ir)) _ front) ∙ event_is_flat name e))))
       (or_right (is_in name (slot_names ir ++ flat_event_names ir)) (is_in name (flat_function_names ir)) split)
     where
       split : (is_in name (slot_names ir ++ flat_event_names ir) || is_in name (flat_function_names ir)) ≡ false
       split = sym (is_in-append name (slot_names ir ++ flat_event_names ir) (flat_function_names ir)) ∙ h
 
-  pub keeps_K3 : breaks_K3 (program_of ir) ≡ false
-  keeps_K3 = neither (has_twice (all_names (program_of ir))) false (ap has_twice all_names_are ∙ differ_join (slot_names ir ++ event_names (program_of ir)) (flat_function_names ir) outer) refl
+      front : (is_in name (slot_names ir) || is_in name (flat_event_names ir)) ≡ false
+      front = sym (is_in-append name (slot_names ir) (flat_event_names ir)) ∙ or_left (is_in name (slot_names ir ++ flat_event_names ir)) (is_in name (flat_function_names ir)) split
+
+  pub keeps_K3 : AreFew model.types → breaks_K3 (program_of ir model) ≡ false
+  keeps_K3 few = neither (has_twice (all_names (program_of ir model))) _ (ap has_twice all_names_are ∙ differ_join ((struct_names (program_of ir model) ++ slot_names ir) ++ event_names (program_of ir model)) (flat_function_names ir) outer) (members_apart ir model few)
     where
-      inner : Differ (slot_names ir) (event_names (program_of ir))
-      inner = record {
-        left = (slots_apart ir model fair).left;
-        right = events_twice (used ir) 0 ir.events (slots_apart ir model fair).right;
-        apart = λ name h. not_in_sub (used ir) 0 ir.events name ((slots_apart ir model fair).apart name h);
+      code_free : (name : List ℕ) → is_in name (struct_names (program_of ir model)) ≡ true → is_in name (names_of ir) ≡ false
+      code_free name h = structs_free ir model name h
+
+      flat_front : (name : List ℕ) → is_in name (names_of ir) ≡ false → is_in name (slot_names ir ++ flat_event_names ir) ≡ false
+      flat_front name h = or_left (is_in name (slot_names ir ++ flat_event_names ir)) (is_in name (flat_function_names ir)) (sym (is_in-append name (slot_names ir ++ flat_event_names ir) (flat_function_names ir)) ∙ h)
+
+      flat_functions : (name : List ℕ) → is_in name (names_of ir) ≡ false → is_in name (flat_function_names ir) ≡ false
+      flat_functions name h = or_right (is_in name (slot_names ir ++ flat_event_names ir)) (is_in name (flat_function_names ir)) (sym (is_in-append name (slot_names ir ++ flat_event_names ir) (flat_function_names ir)) ∙ h)
+
+      flat_slots : (name : List ℕ) → is_in name (names_of ir) ≡ false → (is_in name (slot_names ir) || is_in name (flat_event_names ir)) ≡ false
+      flat_slots name h = sym (is_in-append name (slot_names ir) (flat_event_names ir)) ∙ flat_front name h
+
+      first : Differ (struct_names (program_of ir model)) (slot_names ir)
+      first = record {
+        left = structs_apart ir model few;
+        right = (slots_apart ir model fair).left;
+        apart = λ name h. or_left (is_in name (slot_names ir)) (is_in name (flat_event_names ir)) (flat_slots name (code_free name h));
       }
 
-      outer : Differ (slot_names ir ++ event_names (program_of ir)) (flat_function_names ir)
-      outer = record {
-        left = differ_join (slot_names ir) (event_names (program_of ir)) inner;
-        right = (functions_apart ir model fair).right;
-        apart = λ name h. (functions_apart ir model fair).apart name (front_is_flat name h);
+      inner : Differ (struct_names (program_of ir model) ++ slot_names ir) (event_names (program_of ir model))
+      inner = record {
+        left = differ_join (struct_names (program_of ir model)) (slot_names ir) first;
+        right = events_twice (used ir) 0 ir.events (slots_apart ir model fair).right;
+        apart = λ name h. by_side name (either (is_in name (struct_names (program_of ir model))) (is_in name (slot_names ir)) (sym (is_in-append name (struct_names (program_of ir model)) (slot_names ir)) ∙ h));
       }
+        where
+          by_side : (name : List ℕ) → (is_in name (struct_names (program_of ir model)) ≡ true) ⊎ (is_in name (slot_names ir) ≡ true)
+              → is_in name (event_names (program_of ir model)) ≡ false
+          by_side name (inl e) = not_in_sub (used ir) 0 ir.events name (or_right (is_in name (slot_names ir)) (is_in name (flat_event_names ir)) (flat_slots name (code_free name e)))
+          by_side name (inr e) = not_in_sub (used ir) 0 ir.events name ((slots_apart ir model fair).apart name e)
+
+      outer : Differ ((struct_names (program_of ir model) ++ slot_names ir) ++ event_names (program_of ir model)) (flat_function_names ir)
+      outer = record {
+        left = differ_join (struct_names (program_of ir model) ++ slot_names ir) (event_names (program_of ir model)) inner;
+        right = (functions_apart ir model fair).right;
+        apart = λ name h. by_side name (either (is_in name (struct_names (program_of ir model) ++ slot_names ir)) (is_in name (event_names (program_of ir model))) (sym (is_in-append name (struct_names (program_of ir model) ++ slot_names ir) (event_names (program_of ir model))) ∙ h));
+      }
+        where
+          by_slot : (name : List ℕ) → (is_in name (struct_names (program_of ir model)) ≡ true) ⊎ (is_in name (slot_names ir) ≡ true) → is_in name (flat_function_names ir) ≡ false
+          by_slot name (inl e) = flat_functions name (code_free name e)
+          by_slot name (inr e) = (functions_apart ir model fair).apart name (is_in-append name (slot_names ir) (flat_event_names ir) ∙ or_first (is_in name (slot_names ir)) (is_in name (flat_event_names ir)) e)
+
+          by_side : (name : List ℕ) → (is_in name (struct_names (program_of ir model) ++ slot_names ir) ≡ true) ⊎ (is_in name (event_names (program_of ir model)) ≡ true) → is_in name (flat_function_names ir) ≡ false
+          by_side name (inl e) = by_slot name (either (is_in name (struct_names (program_of ir model))) (is_in name (slot_names ir)) (sym (is_in-append name (struct_names (program_of ir model)) (slot_names ir)) ∙ e))
+          by_side name (inr e) = (functions_apart ir model fair).apart name (is_in-append name (slot_names ir) (flat_event_names ir) ∙ or_second (is_in name (slot_names ir)) (is_in name (flat_event_names ir)) (event_is_flat name e))
 
 -- ---- events that are declared
 
@@ -193,7 +225,7 @@ any_among k f p h (x ∷ xs) a = step (among_split k (f x) (flat_map f xs) a) (a
 
 -- an event that is declared is shown by something
 pub declared_shown : (ir : Ir) (model : Model) → Fair ir model → (k : ℕ) (w : Word) → slice_get ir.events k ≡ Some w
-    → is_in w.bytes (event_names (program_of ir)) ≡ true → is_shown ir k ≡ true
+    → is_in w.bytes (event_names (program_of ir model)) ≡ true → is_shown ir k ≡ true
 declared_shown ir model fair k w e inside =
     any_among k (λ (g : FlatFn). flat_map shows g.code) (λ (g : FlatFn). list_any (shows_event k) g.code)
     (λ g a. any_among k shows (shows_event k) (shown_by k) g.code a) ir.functions

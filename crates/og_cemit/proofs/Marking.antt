@@ -1,12 +1,13 @@
 -- Which marks are set.
-use Rattle.std.proofs.Common.{◌≡◌, ℕ, zero, suc, ◌<◌, List, [], ◌∷◌, ◌++◌, Bool, true, false, ◌⊎◌, inl, inr, Some, length, replicate, slice_get, refl, sym, ap, subst, arith}
+use Rattle.std.proofs.Common.{◌≡◌, ℕ, zero, suc, ◌<◌, List, [], ◌∷◌, ◌++◌, Bool, true, false, ◌⊎◌, inl, inr, Some, length, replicate, slice_get, refl, sym, ap, subst, ◌∙◌, arith}
 use Rattle.std.specs.List.{flat_map}
 use Rattle.std.proofs.lemmas.Bool.{false≢true}
 use Rattle.std.proofs.lemmas.Option.{none-some}
 use Rattle.og_ir.specs.declared.Ir.{Ir}
 use Rattle.og_ir.specs.declared.FlatFn.{FlatFn}
 use Rattle.og_ir.specs.declared.Instr.{Instr}
-use Rattle.og_cemit.specs.Emitted.{is_marked, marked, all_marked, jumps, targets, shows, used}
+use Rattle.og_cemit.specs.Marks.{is_marked, marked, all_marked}
+use Rattle.og_cemit.specs.Emitted.{jumps, targets, shows, used}
 use Rattle.og_names.proofs.Truths.{same_value}
 
 -- the number stands among the numbers
@@ -57,17 +58,17 @@ mark_length j [] = refl
 mark_length zero (m ∷ marks) = refl
 mark_length (suc j) (m ∷ marks) = ap suc (mark_length j marks)
 
-all_kept : (ks : List ℕ) (marks : List Bool) (k : ℕ) → is_marked marks k ≡ true → is_marked (all_marked ks marks) k ≡ true
+pub all_kept : (ks : List ℕ) (marks : List Bool) (k : ℕ) → is_marked marks k ≡ true → is_marked (all_marked ks marks) k ≡ true
 all_kept [] marks k h = h
 all_kept (j ∷ ks) marks k h = all_kept ks (marked j marks) k (mark_kept j k marks h)
 
-all_set : (ks : List ℕ) (marks : List Bool) (k : ℕ) → Among k ks → k < length marks → is_marked (all_marked ks marks) k ≡ true
+pub all_set : (ks : List ℕ) (marks : List Bool) (k : ℕ) → Among k ks → k < length marks → is_marked (all_marked ks marks) k ≡ true
 all_set [] marks k h less = absurd h
 all_set (j ∷ ks) marks k (inl e) less =
     all_kept ks (marked j marks) k (subst (λ n. is_marked (marked n marks) k ≡ true) (sym e) (mark_set k marks less))
 all_set (j ∷ ks) marks k (inr h) less = let long = mark_length j marks in all_set ks (marked j marks) k h (omega (arith, less, long))
 
-all_from : (ks : List ℕ) (marks : List Bool) (k : ℕ) → is_marked (all_marked ks marks) k ≡ true → (is_marked marks k ≡ true) ⊎ Among k ks
+pub all_from : (ks : List ℕ) (marks : List Bool) (k : ℕ) → is_marked (all_marked ks marks) k ≡ true → (is_marked marks k ≡ true) ⊎ Among k ks
 all_from [] marks k h = inl h
 all_from (j ∷ ks) marks k h = next (all_from ks (marked j marks) k h)
   where
@@ -79,12 +80,16 @@ all_from (j ∷ ks) marks k h = next (all_from ks (marked j marks) k h)
     next (inl e) = here (mark_from j k marks e)
     next (inr a) = inr (inr a)
 
+pub all_length : (ks : List ℕ) (marks : List Bool) → length (all_marked ks marks) ≡ length marks
+all_length [] marks = refl
+all_length (k ∷ ks) marks = all_length ks (marked k marks) ∙ mark_length k marks
+
 none_marked : (n k : ℕ) → is_marked (replicate n false) k ≡ true → ⊥
 none_marked zero k h = false≢true h
 none_marked (suc n) zero h = false≢true h
 none_marked (suc n) (suc k) h = none_marked n k h
 
-replicated : (n : ℕ) → length (replicate n false) ≡ n
+pub replicated : (n : ℕ) → length (replicate n false) ≡ n
 replicated zero = refl
 replicated (suc n) = ap suc (replicated n)
 

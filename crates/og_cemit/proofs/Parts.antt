@@ -1,4 +1,4 @@
--- What fair code of single cells gives, part by part.
+-- What fair code gives, part by part.
 use Rattle.std.proofs.Common.{◌≡◌, ℕ, zero, suc, ◌+◌, ◌<◌, List, [], ◌∷◌, ◌++◌, Bool, true, false, cond, ◌||◌, Option, Some, None, map, length, slice_get, refl, sym, ap, subst, ◌∙◌, arith}
 use Rattle.std.specs.Prelude.{find, option_map}
 use Rattle.std.specs.List.{list_all}
@@ -6,7 +6,6 @@ use Rattle.std.specs.Str.{bytes_eq}
 use Rattle.std.proofs.lemmas.Bool.{false≢true}
 use Rattle.std.proofs.lemmas.Option.{none-some}
 use Rattle.og_types.specs.declared.Sort.{Sort}
-use Rattle.og_types.specs.Table.{is_empty}
 use Rattle.og_names.specs.declared.Word.{Word}
 use Rattle.og_model.specs.declared.Model.{Model}
 use Rattle.og_ir.specs.declared.Ir.{Ir}
@@ -14,10 +13,9 @@ use Rattle.og_ir.specs.declared.SlotDef.{SlotDef}
 use Rattle.og_ir.specs.declared.FlatFn.{FlatFn}
 use Rattle.og_ir.specs.declared.Slot.{Slot}
 use Rattle.og_ir.specs.declared.Step2.{Step2}
-use Rattle.og_ir.specs.CellsOnly.{is_whole}
 use Rattle.og_ir.specs.Cells.{◌>>=◌}
 use Rattle.og_csubset.specs.declared.CGlobal.{CGlobal}
-use Rattle.og_csubset.specs.declared.CType.TheVariants.{Int64}
+use Rattle.og_csubset.specs.declared.CType.{CType}
 use Rattle.og_csubset.specs.declared.CFunction.{CFunction}
 use Rattle.og_csubset.specs.Kinds.{Kind, place_in, is_in, global_names, function_names, global_kind}
 use Rattle.og_csubset.specs.Loading.{has_twice}
@@ -25,23 +23,24 @@ use Rattle.og_csubset.specs.FlatRun.{slot_names, flat_function_names}
 use Rattle.og_csubset.specs.Fair.{Held, held_in_slot, held_after, held_at, is_one, joins, is_number, is_right, are_right, names_of, Fair}
 use Rattle.og_csubset.specs.FlatText.{slot_word}
 use Rattle.og_cemit.specs.Emitted.{global_of, function_of, program_of}
+use Rattle.og_cemit.specs.Structs.{prefix_of, type_of_slot}
 use Rattle.og_cemit.proofs.Names.{get_map, there, within, place_at_self, is_in_at, Differ, differ_parts}
-use Rattle.og_names.proofs.Truths.{both_first as left_of, both_second as right_of, not_true}
+use Rattle.og_names.proofs.Truths.{both_first as left_of, both_second as right_of, not_true, same_value}
 
 -- ---- the names of the program are those of the code
 
-pub global_names_are : (ir : Ir) → global_names (program_of ir) ≡ slot_names ir
-global_names_are ir = names ir.slots
+pub global_names_are : (ir : Ir) (model : Model) → global_names (program_of ir model) ≡ slot_names ir
+global_names_are ir model = names ir.slots
   where
-    names : (slots : List SlotDef) → map (λ (g : CGlobal). g.name.bytes) (map global_of slots) ≡ map (λ (s : SlotDef). s.name.bytes) slots
+    names : (slots : List SlotDef) → map (λ (g : CGlobal). g.name.bytes) (map (global_of (prefix_of ir) model.types) slots) ≡ map (λ (s : SlotDef). s.name.bytes) slots
     names [] = refl
     names (s ∷ slots) = ap (λ l. s.name.bytes ∷ l) (names slots)
 
-pub function_names_are : (ir : Ir) → function_names (program_of ir) ≡ flat_function_names ir
-function_names_are ir = names ir.functions
+pub function_names_are : (ir : Ir) (model : Model) → function_names (program_of ir model) ≡ flat_function_names ir
+function_names_are ir model = names ir.functions
   where
     names : (functions : List FlatFn)
-        → map (λ (g : CFunction). g.name.bytes) (map (function_of ir) functions) ≡ map (λ (s : FlatFn). s.name.bytes) functions
+        → map (λ (g : CFunction). g.name.bytes) (map (function_of ir model) functions) ≡ map (λ (s : FlatFn). s.name.bytes) functions
     names [] = refl
     names (s ∷ functions) = ap (λ l. s.name.bytes ∷ l) (names functions)
 
@@ -68,41 +67,53 @@ slot_name_at ir base less =
     ∙ ap (λ o. Some (slot_word o).bytes) (sym one.1)
 
 pub slot_placed : (ir : Ir) (model : Model) → Fair ir model → (base : ℕ) → base < length ir.slots
-    → place_in (slot_word (slice_get ir.slots base)).bytes (global_names (program_of ir)) ≡ Some base
+    → place_in (slot_word (slice_get ir.slots base)).bytes (global_names (program_of ir model)) ≡ Some base
 slot_placed ir model fair base less =
-    ap (place_in (slot_word (slice_get ir.slots base)).bytes) (global_names_are ir)
+    ap (place_in (slot_word (slice_get ir.slots base)).bytes) (global_names_are ir model)
     ∙ place_at_self (slot_names ir) base _ (slots_apart ir model fair).left (slot_name_at ir base less)
 
-abbrev pub number_kind : Kind
-number_kind = record { type = Int64; size = None }
+abbrev pub slot_type : Ir → Model → SlotDef → CType
+slot_type ir model slot = type_of_slot (prefix_of ir) model.types slot.sort
 
--- a global is a number
-pub kind_of_slots : (slots : List SlotDef) (name : List ℕ) → is_in name (map (λ (s : SlotDef). s.name.bytes) slots) ≡ true
-    → (find (λ (g : CGlobal). bytes_eq name g.name.bytes) (map global_of slots) >>= λ g. Some (record { type = g.kind; size = None })) ≡ Some number_kind
-kind_of_slots [] name h = absurd (false≢true h)
-kind_of_slots (s ∷ slots) name h = by_test (bytes_eq name s.name.bytes) refl (λ more. kind_of_slots slots name more)
+-- one of a type
+abbrev pub one_of : CType → Kind
+one_of t = record { type = t; size = None }
+
+-- a global has the type of its slot
+pub kind_of_slots : (prefix : List ℕ) (sorts : List Sort) (slots : List SlotDef) (k : ℕ) (slot : SlotDef) (name : List ℕ)
+    → place_in name (map (λ (s : SlotDef). s.name.bytes) slots) ≡ Some k → slice_get slots k ≡ Some slot
+    → (find (λ (g : CGlobal). bytes_eq name g.name.bytes) (map (global_of prefix sorts) slots) >>= λ g. Some (one_of g.kind))
+    ≡ Some (one_of (type_of_slot prefix sorts slot.sort))
+kind_of_slots prefix sorts [] k slot name e h = absurd (none-some slot h)
+kind_of_slots prefix sorts (s ∷ slots) k slot name e h =
+    by_test (bytes_eq name s.name.bytes) e (λ j e' h'. kind_of_slots prefix sorts slots j slot name e' h')
   where
-    by_test : (b : Bool) → bytes_eq name s.name.bytes ≡ b
-        → (is_in name (map (λ (t : SlotDef). t.name.bytes) slots) ≡ true → (find (λ (g : CGlobal). bytes_eq name g.name.bytes) (map global_of slots) >>= λ g. Some (record { type = g.kind; size = None })) ≡ Some number_kind)
-        → (find (λ (g : CGlobal). bytes_eq name g.name.bytes) (map global_of (s ∷ slots)) >>= λ g. Some (record { type = g.kind; size = None })) ≡ Some number_kind
-    by_test true e more = ap (λ b. cond b (Some (global_of s)) (find (λ (g : CGlobal). bytes_eq name g.name.bytes) (map global_of slots)) >>= λ g. Some (record { type = g.kind; size = None })) e
-    by_test false e more =
-        ap (λ b. cond b (Some (global_of s)) (find (λ (g : CGlobal). bytes_eq name g.name.bytes) (map global_of slots)) >>= λ g. Some (record { type = g.kind; size = None })) e
-        ∙ more (sym (ap (λ b. b || is_in name (map (λ (t : SlotDef). t.name.bytes) slots)) e) ∙ h)
+    same_place : (n : ℕ) → n ≡ k → slice_get (s ∷ slots) n ≡ Some slot
+    same_place n q = ap (slice_get (s ∷ slots)) q ∙ h
 
-pub slot_kind : (ir : Ir) (base : ℕ) → base < length ir.slots
-    → global_kind (program_of ir) (slot_word (slice_get ir.slots base)).bytes ≡ Some number_kind
-slot_kind ir base less =
-    kind_of_slots ir.slots (slot_word (slice_get ir.slots base)).bytes (is_in_at (slot_names ir) base _ (slot_name_at ir base less))
+    by_rest : (o : Option ℕ) → place_in name (map (λ (x : SlotDef). x.name.bytes) slots) ≡ o → (o >>= λ j. Some (j + 1)) ≡ Some k
+        → ((j : ℕ) → place_in name (map (λ (x : SlotDef). x.name.bytes) slots) ≡ Some j → slice_get slots j ≡ Some slot
+        → (find (λ (g : CGlobal). bytes_eq name g.name.bytes) (map (global_of prefix sorts) slots) >>= λ g. Some (one_of g.kind)) ≡ Some (one_of (type_of_slot prefix sorts slot.sort)))
+        → (find (λ (g : CGlobal). bytes_eq name g.name.bytes) (map (global_of prefix sorts) slots) >>= λ g. Some (one_of g.kind)) ≡ Some (one_of (type_of_slot prefix sorts slot.sort))
+    by_rest None e' q more = absurd (none-some k q)
+    by_rest (Some j) e' q more =
+        let next : suc j ≡ j + 1 = omega arith in
+        more j e' (ap (slice_get (s ∷ slots)) next ∙ same_place (j + 1) (same_value (j + 1) k q))
+
+    by_test : (b : Bool) → cond b (Some 0) (place_in name (map (λ (x : SlotDef). x.name.bytes) slots) >>= λ j. Some (j + 1)) ≡ Some k
+        → ((j : ℕ) → place_in name (map (λ (x : SlotDef). x.name.bytes) slots) ≡ Some j → slice_get slots j ≡ Some slot
+        → (find (λ (g : CGlobal). bytes_eq name g.name.bytes) (map (global_of prefix sorts) slots) >>= λ g. Some (one_of g.kind)) ≡ Some (one_of (type_of_slot prefix sorts slot.sort)))
+        → (cond b (Some (global_of prefix sorts s)) (find (λ (g : CGlobal). bytes_eq name g.name.bytes) (map (global_of prefix sorts) slots)) >>= λ g. Some (one_of g.kind)) ≡ Some (one_of (type_of_slot prefix sorts slot.sort))
+    by_test true q more = ap (λ (x : SlotDef). Some (one_of (type_of_slot prefix sorts x.sort))) (same_value s slot (same_place 0 (same_value 0 k q)))
+    by_test false q more = by_rest (place_in name (map (λ (x : SlotDef). x.name.bytes) slots)) refl q more
+
+pub slot_kind : (ir : Ir) (model : Model) → Fair ir model → (base : ℕ) (slot : SlotDef) → slice_get ir.slots base ≡ Some slot
+    → global_kind (program_of ir model) (slot_word (slice_get ir.slots base)).bytes ≡ Some (one_of (slot_type ir model slot))
+slot_kind ir model fair base slot e =
+    kind_of_slots (prefix_of ir) model.types ir.slots base slot (slot_word (slice_get ir.slots base)).bytes
+    (place_at_self (slot_names ir) base _ (slots_apart ir model fair).left (slot_name_at ir base (within ir.slots base slot e))) e
 
 -- ---- what right code uses is there
-
-empty_path : (steps : List Step2) → is_empty steps ≡ true → steps ≡ []
-empty_path [] h = refl
-empty_path (s ∷ steps) h = absurd (false≢true h)
-
-pub path_is_empty : (slot : Slot) → is_whole slot ≡ true → slot.path ≡ []
-path_is_empty slot h = empty_path slot.path h
 
 -- a place where something is held is in a slot
 pub held_slot : (sorts : List Sort) (ir : Ir) (slot : Slot) (held : Held) → held_at sorts ir slot ≡ Some held → slot.base < length ir.slots

@@ -17,7 +17,6 @@ use Rattle.og_ir.specs.declared.SlotSort.{SlotSort}
 use Rattle.og_ir.specs.declared.SlotSort.TheVariants as slot_sort
 use Rattle.og_ir.specs.declared.FlatFn.{FlatFn}
 use Rattle.og_ir.specs.declared.Instr.{Instr}
-use Rattle.og_ir.specs.CellsOnly.{is_cell, UsesCellsOnly}
 use Rattle.og_ir.specs.Cells.{◌>>=◌, Cells, Cell}
 use Rattle.og_ir.specs.Arithmetic.{in_64_bits}
 use Rattle.og_ir.specs.Steps.{Config, Running, Over, Broken, Ran, quiet, joined, and_then, exec}
@@ -25,7 +24,7 @@ use Rattle.og_ir.specs.FlatSteps.{flat_step, blank_slot, first_slots}
 use Rattle.og_csubset.specs.declared.CGlobal.{CGlobal}
 use Rattle.og_csubset.specs.declared.CFunction.{CFunction}
 use Rattle.og_csubset.specs.declared.CStmt.{CStmt}
-use Rattle.og_csubset.specs.Kinds.{place_in, global_names, function_names, blank_type, total}
+use Rattle.og_csubset.specs.Kinds.{place_in, global_names, function_names, first_globals, total}
 use Rattle.og_csubset.specs.Interface.{inputs_of, start_function, signal_function, timer_function}
 use Rattle.og_csubset.specs.Reads.{event_of, end_of, inputs_set}
 use Rattle.og_csubset.specs.Step.{cstep}
@@ -34,10 +33,14 @@ use Rattle.og_csubset.specs.FlatRun.{slot_names, flat_function_names, flat_event
 use Rattle.og_csubset.specs.Agreement.{is_sent, is_stimulus, are_in, AreStimuli}
 use Rattle.og_csubset.specs.Paced.{statements_at, exec_paced, paced_runs, paced, statements_below, paced_size_from}
 use Rattle.og_csubset.specs.Fair.{Fair}
-use Rattle.og_cemit.specs.Emitted.{global_of, function_of, is_marked, targets, label_before, statement_at, statements_from, body_of, program_of, AreShort}
+use Rattle.og_cemit.specs.Marks.{is_marked}
+use Rattle.og_cemit.specs.Emitted.{global_of, function_of, targets, label_before, statement_at, statements_from, body_of, program_of, AreShort}
+use Rattle.og_cemit.specs.Structs.{AreFew}
 use Rattle.og_cemit.specs.Program.{ShowsAtAPace}
 use Rattle.og_cemit.proofs.Parts.{global_names_are, function_names_are}
-use Rattle.og_cemit.proofs.Values.{is_number_cell, HoldNumbers}
+use Rattle.og_cemit.proofs.Values.{HoldShapes}
+use Rattle.og_cemit.proofs.Shapes.{zeroed, blank_zeroed}
+use Rattle.og_cemit.proofs.StructCells.{cells_at_load}
 use Rattle.og_cemit.proofs.Bodies.{width, width_of, before, before_none, before_next}
 use Rattle.og_cemit.proofs.Configurations.{before_in, pace_in, pace_of, begun_config, IsGood, Same}
 use Rattle.og_cemit.proofs.SameSteps.{step_last, step_label}
@@ -76,38 +79,38 @@ statements_positive ir (Broken trouble) = omega arith
 -- ---- runs
 
 -- a run of statements has come to where one of steps has, with some of the next statements carried out
-record Come (ir : Ir) (statements steps : Ran Event) : Type 0 where
+record Come (ir : Ir) (model : Model) (statements steps : Ran Event) : Type 0 where
   begins : ℕ
   same : statements ≡ record { events = steps.events; config = begun_config ir begins steps.config }
-  good : IsGood ir steps.config
+  good : IsGood ir model steps.config
 
-module _ (ir : Ir) (model : Model) (fair : Fair ir model) (cells : UsesCellsOnly ir) (short : AreShort ir.functions) where
+module _ (ir : Ir) (model : Model) (fair : Fair ir model) (short : AreShort ir.functions) (few : AreFew model.types) where
   abbrev step_of : Config → Ran Event
   step_of = flat_step (flat_event model ir) in_64_bits ir
 
   abbrev cstep_of : Config → Ran Event
-  cstep_of = cstep (event_of model (global_names (program_of ir))) (program_of ir)
+  cstep_of = cstep (event_of model (global_names (program_of ir model))) (program_of ir model)
 
   label_run : (n b : ℕ) (config : Config) → cstep_of (begun_config ir b config) ≡ quiet (begun_config ir (b + 1) config)
-      → {steps : Ran Event} → Come ir (exec cstep_of n (begun_config ir (b + 1) config)) steps
-      → Come ir (exec cstep_of (suc n) (begun_config ir b config)) steps
+      → {steps : Ran Event} → Come ir model (exec cstep_of n (begun_config ir (b + 1) config)) steps
+      → Come ir model (exec cstep_of (suc n) (begun_config ir b config)) steps
   label_run n b config e come = record {
     begins = come.begins;
     same = ap (λ ran. and_then ran (exec cstep_of n)) e ∙ come.same;
     good = come.good;
   }
 
-  step_run : (n b : ℕ) (config : Config) → Same ir (cstep_of (begun_config ir b config)) (step_of config) → {steps : Ran Event}
-      → Come ir (exec cstep_of n (begun_config ir 0 (step_of config).config)) steps
-      → Come ir (exec cstep_of (suc n) (begun_config ir b config)) (joined (step_of config).events steps)
+  step_run : (n b : ℕ) (config : Config) → Same ir model (cstep_of (begun_config ir b config)) (step_of config) → {steps : Ran Event}
+      → Come ir model (exec cstep_of n (begun_config ir 0 (step_of config).config)) steps
+      → Come ir model (exec cstep_of (suc n) (begun_config ir b config)) (joined (step_of config).events steps)
   step_run n b config h come = record {
     begins = come.begins;
     same = ap (λ ran. and_then ran (exec cstep_of n)) h.same ∙ ap (joined (step_of config).events) come.same;
     good = come.good;
   }
 
-  exec_same : (n b : ℕ) (config : Config) → IsGood ir config → b < statements_at (pace_of ir) config
-      → Come ir (exec cstep_of n (begun_config ir b config)) (exec_paced (pace_of ir) step_of n b config)
+  exec_same : (n b : ℕ) (config : Config) → IsGood ir model config → b < statements_at (pace_of ir) config
+      → Come ir model (exec cstep_of n (begun_config ir b config)) (exec_paced (pace_of ir) step_of n b config)
   exec_same zero b config good less = record { begins = b; same = refl; good = good }
   exec_same (suc n) b config good less =
       by_test (nat_lt (b + 1) (statements_at (pace_of ir) config)) refl
@@ -115,20 +118,20 @@ module _ (ir : Ir) (model : Model) (fair : Fair ir model) (cells : UsesCellsOnly
       (λ h. exec_same n 0 (step_of config).config h.good (statements_positive ir (step_of config).config))
     where
       by_test : (t : Bool) → nat_lt (b + 1) (statements_at (pace_of ir) config) ≡ t
-          → (b + 1 < statements_at (pace_of ir) config → Come ir (exec cstep_of n (begun_config ir (b + 1) config)) (exec_paced (pace_of ir) step_of n (b + 1) config))
-          → (Same ir (cstep_of (begun_config ir b config)) (step_of config) → Come ir (exec cstep_of n (begun_config ir 0 (step_of config).config)) (exec_paced (pace_of ir) step_of n 0 (step_of config).config))
-          → Come ir (exec cstep_of (suc n) (begun_config ir b config)) (cond t (exec_paced (pace_of ir) step_of n (b + 1) config) (and_then (step_of config) (exec_paced (pace_of ir) step_of n 0)))
+          → (b + 1 < statements_at (pace_of ir) config → Come ir model (exec cstep_of n (begun_config ir (b + 1) config)) (exec_paced (pace_of ir) step_of n (b + 1) config))
+          → (Same ir model (cstep_of (begun_config ir b config)) (step_of config) → Come ir model (exec cstep_of n (begun_config ir 0 (step_of config).config)) (exec_paced (pace_of ir) step_of n 0 (step_of config).config))
+          → Come ir model (exec cstep_of (suc n) (begun_config ir b config)) (cond t (exec_paced (pace_of ir) step_of n (b + 1) config) (and_then (step_of config) (exec_paced (pace_of ir) step_of n 0)))
       by_test true e label' last =
           let early = ltb-true (b + 1) (statements_at (pace_of ir) config) e in
-          label_run n b config (step_label ir model fair cells short config good b early) (label' early)
+          label_run n b config (step_label ir model fair short few config good b early) (label' early)
       by_test false e label' last =
           let late = ltb-false (b + 1) (statements_at (pace_of ir) config) e in
-          let h = step_last ir model fair cells short config good b (omega (arith, less, late)) in
+          let h = step_last ir model fair short few config good b (omega (arith, less, late)) in
           step_run n b config h (last h)
 
   shown_same : (ending : List Cells → End) (more more' : List Cells → List Shown)
-      → ((slots : List Cells) → HoldNumbers ir slots → more slots ≡ more' slots) → (b : ℕ) (events : List Event) (config : Config)
-      → IsGood ir config → shown_by ending more events (begun_config ir b config) ≡ shown_by ending more' events config
+      → ((slots : List Cells) → HoldShapes ir model slots → more slots ≡ more' slots) → (b : ℕ) (events : List Event) (config : Config)
+      → IsGood ir model config → shown_by ending more events (begun_config ir b config) ≡ shown_by ending more' events config
   shown_same ending more more' same b events (Running slots frame callers) good = refl
   shown_same ending more more' same b events (Over slots) good =
       ap (λ l. record { events = events; end = ending slots } ∷ goes_on (ending slots) l []) (same slots good)
@@ -152,10 +155,10 @@ module _ (ir : Ir) (model : Model) (fair : Fair ir model) (cells : UsesCellsOnly
 
   record Begins (config : Config) : Type 0 where
     same : begun_config ir 0 config ≡ config
-    good : IsGood ir config
+    good : IsGood ir model config
 
   entered_begins : (name : List ℕ) (o : Option ℕ) → place_in name (flat_function_names ir) ≡ o → (slots : List Cells)
-      → HoldNumbers ir slots → Begins (entered o slots)
+      → HoldShapes ir model slots → Begins (entered o slots)
   entered_begins name None e slots hold = record { same = refl; good = tt }
   entered_begins name (Some k) e slots hold = record {
     same = ap (λ n. Running slots (record { function = k; place = n }) []) (start (slice_get ir.functions k));
@@ -174,11 +177,11 @@ module _ (ir : Ir) (model : Model) (fair : Fair ir model) (cells : UsesCellsOnly
   IsSent (Some stimulus) = is_stimulus model stimulus ≡ true
 
   sent_holds : (k : ℕ) (vs : List Value) (o : Option Signal) → slice_get model.signals k ≡ o → is_sent model o vs ≡ true
-      → (slots : List Cells) → HoldNumbers ir slots → HoldNumbers ir (inputs_set model (slot_names ir) (inputs_of model k) vs slots)
+      → (slots : List Cells) → HoldShapes ir model slots → HoldShapes ir model (inputs_set model (slot_names ir) (inputs_of model k) vs slots)
   sent_holds k vs None e h slots hold = absurd (false≢true h)
-  sent_holds k vs (Some signal) e h slots hold = signal_holds ir model fair cells k signal e (left_of signal.incoming (are_in model signal.sorts vs) h) vs slots hold
+  sent_holds k vs (Some signal) e h slots hold = signal_holds ir model fair k signal e (left_of signal.incoming (are_in model signal.sorts vs) h) vs slots hold
 
-  stimulus_begins : (stimulus : Option Stimulus) → IsSent stimulus → (slots : List Cells) → HoldNumbers ir slots
+  stimulus_begins : (stimulus : Option Stimulus) → IsSent stimulus → (slots : List Cells) → HoldShapes ir model slots
       → Begins (begun model (flat_function_names ir) (slot_names ir) stimulus slots)
   stimulus_begins None sent slots hold = entered_begins start_function _ refl slots hold
   stimulus_begins (Some (shown.Signal k vs)) sent slots hold = entered_begins (signal_function model k) _ refl _ (sent_holds k vs (slice_get model.signals k) refl sent slots hold)
@@ -190,17 +193,17 @@ module _ (ir : Ir) (model : Model) (fair : Fair ir model) (cells : UsesCellsOnly
   AllSent [] = ⊤
   AllSent (stimulus ∷ stimuli) = IsSent stimulus × AllSent stimuli
 
-  runs_same : (n : ℕ) (stimuli : List (Option Stimulus)) → AllSent stimuli → (slots : List Cells) → HoldNumbers ir slots
-      → runs (c_machine (program_of ir) model) n stimuli slots ≡ paced_runs (flat_machine in_64_bits ir model) (pace_of ir) n stimuli slots
+  runs_same : (n : ℕ) (stimuli : List (Option Stimulus)) → AllSent stimuli → (slots : List Cells) → HoldShapes ir model slots
+      → runs (c_machine (program_of ir model) model) n stimuli slots ≡ paced_runs (flat_machine in_64_bits ir model) (pace_of ir) n stimuli slots
   runs_same n [] sent slots hold = refl
   runs_same n (stimulus ∷ stimuli) sent slots hold =
-      ap (λ config. shown_of (end_of model (global_names (program_of ir))) more (exec cstep_of n config)) begin
-      ∙ ap (λ names. shown_of (end_of model names) more (exec cstep_of n (begun_config ir 0 config'))) (global_names_are ir)
+      ap (λ config. shown_of (end_of model (global_names (program_of ir model))) more (exec cstep_of n config)) begin
+      ∙ ap (λ names. shown_of (end_of model names) more (exec cstep_of n (begun_config ir 0 config'))) (global_names_are ir model)
       ∙ ap (shown_of (end_of model (slot_names ir)) more) come.same
       ∙ shown_same (end_of model (slot_names ir)) more more' (λ slots' hold'. runs_same n stimuli sent.1 slots' hold') come.begins steps.events steps.config come.good
     where
       more : List Cells → List Shown
-      more = runs (c_machine (program_of ir) model) n stimuli
+      more = runs (c_machine (program_of ir model) model) n stimuli
 
       more' : List Cells → List Shown
       more' = paced_runs (flat_machine in_64_bits ir model) (pace_of ir) n stimuli
@@ -211,58 +214,43 @@ module _ (ir : Ir) (model : Model) (fair : Fair ir model) (cells : UsesCellsOnly
       start : Begins config'
       start = stimulus_begins stimulus sent.0 slots hold
 
-      begin : begun model (function_names (program_of ir)) (global_names (program_of ir)) stimulus slots ≡ begun_config ir 0 config'
+      begin : begun model (function_names (program_of ir model)) (global_names (program_of ir model)) stimulus slots ≡ begun_config ir 0 config'
       begin =
-          ap (λ names. begun model names (global_names (program_of ir)) stimulus slots) (function_names_are ir)
-          ∙ ap (λ names. begun model (flat_function_names ir) names stimulus slots) (global_names_are ir)
+          ap (λ names. begun model names (global_names (program_of ir model)) stimulus slots) (function_names_are ir model)
+          ∙ ap (λ names. begun model (flat_function_names ir) names stimulus slots) (global_names_are ir model)
           ∙ sym start.same
 
       steps : Ran Event
       steps = exec_paced (pace_of ir) step_of n 0 config'
 
-      come : Come ir (exec cstep_of n (begun_config ir 0 config')) steps
+      come : Come ir model (exec cstep_of n (begun_config ir 0 config')) steps
       come = exec_same n 0 config' start.good (statements_positive ir config')
 
 -- ---- the cells at load
 
-first_same : (sorts : List Sort) (slots : List SlotDef) → list_all (λ (x : SlotDef). is_cell x.sort) slots ≡ true
-    → map (λ (x : CGlobal). blank_type [] x.kind) (map global_of slots) ≡ map (λ (x : SlotDef). blank_slot sorts x.sort) slots
-first_same sorts [] h = refl
-first_same sorts (x ∷ slots) h =
-    ap (λ cell. cell ∷ map (λ (y : CGlobal). blank_type [] y.kind) (map global_of slots)) (one x.sort (left_of (is_cell x.sort) (list_all (λ (y : SlotDef). is_cell y.sort) slots) h))
-    ∙ ap (λ l. blank_slot sorts x.sort ∷ l) (first_same sorts slots (right_of (is_cell x.sort) (list_all (λ (y : SlotDef). is_cell y.sort) slots) h))
-  where
-    one : (s : SlotSort) → is_cell s ≡ true → Cell (pos 0) ≡ blank_slot sorts s
-    one slot_sort.Cell e = refl
-    one (slot_sort.Shaped t) e = absurd (false≢true e)
+first_same : (ir : Ir) (model : Model) → Fair ir model → AreFew model.types → first_globals (program_of ir model) ≡ first_slots model.types ir
+first_same ir model fair few = cells_at_load ir model fair few
 
-first_numbers : (sorts : List Sort) (slots : List SlotDef) → list_all (λ (x : SlotDef). is_cell x.sort) slots ≡ true
-    → list_all is_number_cell (map (λ (x : SlotDef). blank_slot sorts x.sort) slots) ≡ true
-first_numbers sorts [] h = refl
-first_numbers sorts (x ∷ slots) h =
-    ap (λ b. b && list_all is_number_cell (map (λ (y : SlotDef). blank_slot sorts y.sort) slots)) (one x.sort (left_of (is_cell x.sort) (list_all (λ (y : SlotDef). is_cell y.sort) slots) h))
-    ∙ first_numbers sorts slots (right_of (is_cell x.sort) (list_all (λ (y : SlotDef). is_cell y.sort) slots) h)
+blank_slots : (sorts : List Sort) (slots : List SlotDef) → map zeroed (map (λ (x : SlotDef). blank_slot sorts x.sort) slots) ≡ map (λ (x : SlotDef). blank_slot sorts x.sort) slots
+blank_slots sorts [] = refl
+blank_slots sorts (x ∷ slots) = ap (λ y. y ∷ map zeroed (map (λ (z : SlotDef). blank_slot sorts z.sort) slots)) (one x.sort) ∙ ap (λ l. blank_slot sorts x.sort ∷ l) (blank_slots sorts slots)
   where
-    one : (s : SlotSort) → is_cell s ≡ true → is_number_cell (blank_slot sorts s) ≡ true
-    one slot_sort.Cell e = refl
-    one (slot_sort.Shaped t) e = absurd (false≢true e)
-
-first_length : (sorts : List Sort) (slots : List SlotDef) → length (map (λ (x : SlotDef). blank_slot sorts x.sort) slots) ≡ length slots
-first_length sorts [] = refl
-first_length sorts (x ∷ slots) = ap suc (first_length sorts slots)
+    one : (s : SlotSort) → zeroed (blank_slot sorts s) ≡ blank_slot sorts s
+    one slot_sort.Cell = refl
+    one (slot_sort.Shaped t) = blank_zeroed sorts t
 
 -- ---- the sizes
 
-body_length : (ir : Ir) (g : FlatFn) (marks : List Bool) (place : ℕ) (code : List Instr)
-    → length (statements_from ir g marks place code) ≡ before marks place code (length code)
-body_length ir g marks place [] = refl
-body_length ir g marks place (i ∷ code) =
-    let rest = body_length ir g marks (place + 1) code in
-    let here = one (is_marked marks place) (statements_from ir g marks (place + 1) code) in
+body_length : (ir : Ir) (model : Model) (g : FlatFn) (marks : List Bool) (place : ℕ) (code : List Instr)
+    → length (statements_from ir model g marks place code) ≡ before marks place code (length code)
+body_length ir model g marks place [] = refl
+body_length ir model g marks place (i ∷ code) =
+    let rest = body_length ir model g marks (place + 1) code in
+    let here = one (is_marked marks place) (statements_from ir model g marks (place + 1) code) in
     omega (arith, rest, here)
   where
     one : (mark : Bool) (others : List CStmt)
-        → length ((label_before mark g place ++ statement_at ir g i ∷ []) ++ others) ≡ width mark + length others
+        → length ((label_before mark g place ++ statement_at ir model g i ∷ []) ++ others) ≡ width mark + length others
     one false others = omega arith
     one true others = omega arith
 
@@ -270,7 +258,7 @@ past_end : {A : Type 0} (xs : List A) → slice_get xs (length xs) ≡ None
 past_end [] = refl
 past_end (x ∷ xs) = past_end xs
 
-module _ (ir : Ir) (k : ℕ) (g : FlatFn) (stands : slice_get ir.functions k ≡ Some g) where
+module _ (ir : Ir) (model : Model) (k : ℕ) (g : FlatFn) (stands : slice_get ir.functions k ≡ Some g) where
   pace_here : (place : ℕ) → pace_of ir k place ≡ width_of (is_marked (targets g.code) place) (slice_get g.code place)
   pace_here place = ap (λ o. pace_in o place) stands
 
@@ -284,49 +272,48 @@ module _ (ir : Ir) (k : ℕ) (g : FlatFn) (stands : slice_get ir.functions k ≡
       ap (λ m. width_of (is_marked (targets g.code) m) (slice_get g.code n)) (omega arith) in
       omega (arith, here, next, pace, same)
 
-  function_size : length (body_of ir g) + 1 ≡ statements_below (pace_of ir k) (length g.code + 1)
+  function_size : length (body_of ir model g) + 1 ≡ statements_below (pace_of ir k) (length g.code + 1)
   function_size =
       let one : length g.code + 1 ≡ suc (length g.code) = omega arith in
       let whole : statements_below (pace_of ir k) (length g.code + 1) ≡ statements_below (pace_of ir k) (length g.code) + pace_of ir k (length g.code) =
       ap (statements_below (pace_of ir k)) one in
       let ends : pace_of ir k (length g.code) ≡ 1 =
       pace_here (length g.code) ∙ ap (width_of (is_marked (targets g.code) (length g.code))) (past_end g.code) in
-      let long = body_length ir g (targets g.code) 0 g.code in
+      let long = body_length ir model g (targets g.code) 0 g.code in
       let below = below_is (length g.code) in
       omega (arith, whole, ends, long, below)
 
-sizes_from : (ir : Ir) (k : ℕ) (functions : List FlatFn) → ((j : ℕ) → slice_get ir.functions (k + j) ≡ slice_get functions j)
-    → total (map (λ (f : CFunction). length f.body + 1) (map (function_of ir) functions)) ≡ paced_size_from (pace_of ir) k functions
-sizes_from ir k [] same = refl
-sizes_from ir k (g ∷ functions) same =
+sizes_from : (ir : Ir) (model : Model) (k : ℕ) (functions : List FlatFn) → ((j : ℕ) → slice_get ir.functions (k + j) ≡ slice_get functions j)
+    → total (map (λ (f : CFunction). length f.body + 1) (map (function_of ir model) functions)) ≡ paced_size_from (pace_of ir) k functions
+sizes_from ir model k [] same = refl
+sizes_from ir model k (g ∷ functions) same =
     let zero_plus : k ≡ k + 0 = omega arith in
-    let here = function_size ir k g (ap (slice_get ir.functions) zero_plus ∙ same 0) in
-    let rest = sizes_from ir (k + 1) functions (λ j. let next : k + 1 + j ≡ k + suc j = omega arith in ap (slice_get ir.functions) next ∙ same (suc j)) in
+    let here = function_size ir model k g (ap (slice_get ir.functions) zero_plus ∙ same 0) in
+    let rest = sizes_from ir model (k + 1) functions (λ j. let next : k + 1 + j ≡ k + suc j = omega arith in ap (slice_get ir.functions) next ∙ same (suc j)) in
     omega (arith, here, rest)
 
 -- ---- the whole
 
-runs_alike : (ir : Ir) (model : Model) → Fair ir model → UsesCellsOnly ir → AreShort ir.functions → (stimuli : List Stimulus)
-    → AreStimuli model stimuli → (n : ℕ) → c (program_of ir) model stimuli n ≡ paced (pace_of ir) ir model stimuli n
+runs_alike : (ir : Ir) (model : Model) → Fair ir model → AreShort ir.functions → AreFew model.types → (stimuli : List Stimulus)
+    → AreStimuli model stimuli → (n : ℕ) → c (program_of ir model) model stimuli n ≡ paced (pace_of ir) ir model stimuli n
 unfolding c paced
-runs_alike ir model fair cells short stimuli are n =
-    ap (runs (c_machine (program_of ir) model) n (all_stimuli stimuli)) (first_same model.types ir.slots cells.slots)
-    ∙ runs_same ir model fair cells short n (all_stimuli stimuli) (tt, sent stimuli are) (first_slots model.types ir)
-    (record { each = first_numbers model.types ir.slots cells.slots; long = first_length model.types ir.slots })
+runs_alike ir model fair short few stimuli are n =
+    ap (runs (c_machine (program_of ir model) model) n (all_stimuli stimuli)) (first_same ir model fair few)
+    ∙ runs_same ir model fair short few n (all_stimuli stimuli) (tt, sent stimuli are) (first_slots model.types ir) (blank_slots model.types ir.slots)
   where
-    sent : (list : List Stimulus) → list_all (is_stimulus model) list ≡ true → AllSent ir model fair cells short (map Some list)
+    sent : (list : List Stimulus) → list_all (is_stimulus model) list ≡ true → AllSent ir model fair short few (map Some list)
     sent [] h = tt
     sent (stimulus ∷ list) h = (
       left_of (is_stimulus model stimulus) (list_all (is_stimulus model) list) h,
       sent list (right_of (is_stimulus model stimulus) (list_all (is_stimulus model) list) h),
     )
 
-pub shows_at_a_pace : (ir : Ir) (model : Model) → Fair ir model → UsesCellsOnly ir → AreShort ir.functions
-    → ShowsAtAPace ir model (program_of ir)
-shows_at_a_pace ir model fair cells short = record {
+pub shows_at_a_pace : (ir : Ir) (model : Model) → Fair ir model → AreShort ir.functions → AreFew model.types
+    → ShowsAtAPace ir model (program_of ir model)
+shows_at_a_pace ir model fair short few = record {
   pace = pace_of ir;
   is_pace = λ k place. pace_positive (slice_get ir.functions k) place;
   few = λ k place. pace_few (slice_get ir.functions k) place;
-  sizes = sizes_from ir 0 ir.functions (λ j. let zero_plus : 0 + j ≡ j = omega arith in ap (slice_get ir.functions) zero_plus);
-  shows = runs_alike ir model fair cells short;
+  sizes = sizes_from ir model 0 ir.functions (λ j. let zero_plus : 0 + j ≡ j = omega arith in ap (slice_get ir.functions) zero_plus);
+  shows = runs_alike ir model fair short few;
 }

@@ -7,7 +7,7 @@ use Rattle.std.proofs.lemmas.List.{append_assoc}
 use Rattle.og_ir.specs.Arithmetic.{in_64_bits}
 use Rattle.og_csubset.specs.declared.COp.{COp}
 use Rattle.og_csubset.specs.declared.COp.TheVariants.{Sub}
-use Rattle.og_csubset.specs.Tokens.{Token, name, number, operator, keyword, mark, INT64_C, open_round, close_round, IsToken}
+use Rattle.og_csubset.specs.Tokens.{Token, name, number, operator, keyword, mark, INT64_C, open_round, close_round, open_square, close_square, IsToken}
 use Rattle.og_csubset.specs.Spelling.{literal, least_text}
 use Rattle.og_csubset.specs.Nesting.{Level, Nest, after_token, after_tokens, nesting_from}
 use Rattle.og_csubset.specs.Plain.{Text, Piece, piece, bracketed, shown, number_piece, is_least_sum, op_level, operation, op_piece, each, AreTokens}
@@ -100,7 +100,7 @@ abbrev pub Deepens : Text → Type 0
 Deepens text = (block : Bool) (base depth : ℕ) (outward : List Level) → Ends text block base depth outward
 
 -- a token that counts nothing
-deepens_none : (token : Token) → IsToken token
+pub deepens_none : (token : Token) → IsToken token
     → ((block : Bool) (base depth : ℕ) (outward : List Level) → after_token token (nest_at block base depth outward) ≡ nest_at block base depth outward)
     → Deepens (λ rest. token ∷ rest)
 deepens_none token is same block base depth outward = record {
@@ -148,6 +148,20 @@ deepens_bracket text h block base depth outward =
           (leads_token (mark open_round) (nest_at block base depth outward) tt)
           (leads_on _ _ _ text (λ rest. mark close_round ∷ rest) one.leads
           (leads_token (mark close_round) (nest_at false (depth + 1) (depth + 1 + one.up) (level ∷ outward)) tt)));
+    }
+
+-- an index and its brackets count two inside, and one behind
+pub deepens_square : (text : Text) → Deepens text → Deepens (λ rest. mark open_square ∷ text (mark close_square ∷ rest))
+deepens_square text h block base depth outward =
+    let level : Level = record { is_block = block; base = base; depth = depth + 1 } in
+    let one = h false (depth + 1 + 1) (depth + 1 + 1) (level ∷ outward) in
+    record {
+      up = 1;
+      leads =
+          leads_on _ _ _ (λ rest. mark open_square ∷ rest) (λ rest. text (mark close_square ∷ rest))
+          (leads_token (mark open_square) (nest_at block base depth outward) tt)
+          (leads_on _ _ _ text (λ rest. mark close_square ∷ rest) one.leads
+          (leads_token (mark close_square) (nest_at false (depth + 1 + 1) (depth + 1 + 1 + one.up) (level ∷ outward)) tt));
     }
 
 -- ---- numbers

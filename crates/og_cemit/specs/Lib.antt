@@ -1,2 +1,5 @@
 pub mod Emitted
+pub mod Marks
 pub mod Program
+pub mod Standing
+pub mod Structs

@@ -1,6 +1,7 @@
 -- What it is to be a program of flat code over a model: the program loads, its plain text is one of C names and numbers and
--- nests at most 256 deep (C99 5.2.4.1 asks for less), and where the code is never stuck the program shows what the code shows
--- at some pace of at most four statements for each instruction. The program has as many statements as the code has at that
+-- nests at most 256 deep (C99 5.2.4.1 asks for less), and the program shows what the code shows in 64 bits at some pace of at
+-- most four statements for each instruction: where a number leaves 64 bits, an index its array, or a divisor is zero, both are
+-- stuck, and so they are where a value does not read. The program has as many statements as the code has at that
 -- pace: no statement serves two instructions.
 use Rattle.std.specs.Prelude.{◌≡◌, ℕ, ◌≤◌, List}
 use Rattle.og_model.specs.declared.Model.{Model}
@@ -11,7 +12,7 @@ use Rattle.og_csubset.specs.Agreement.{AreStimuli, size}
 use Rattle.og_csubset.specs.Loading.{Loads}
 use Rattle.og_csubset.specs.Nesting.{nesting}
 use Rattle.og_csubset.specs.Plain.{IsWellMade, plain_tokens}
-use Rattle.og_csubset.specs.Paced.{Pace, IsPace, IsSafe, paced, paced_size}
+use Rattle.og_csubset.specs.Paced.{Pace, IsPace, paced, paced_size}
 use Rattle.og_csubset.specs.Run.{c}
 
 pub record ShowsAtAPace (ir : Ir) (model : Model) (program : CProgram) : Type 0 where
@@ -26,4 +27,4 @@ pub record IsProgramOf (ir : Ir) (model : Model) (program : CProgram) : Type 0 w
   pub loads : Loads program model
   pub well_made : IsWellMade program
   pub within : nesting (plain_tokens program) ≤ 256
-  pub shows : IsSafe ir model → ShowsAtAPace ir model program
+  pub shows : ShowsAtAPace ir model program

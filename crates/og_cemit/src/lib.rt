@@ -1,19 +1,24 @@
-//! Writes flat code as a program of the C subset: a global for each slot, a function for each function, and for each
-//! instruction a statement, behind a label where something jumps to it.
+//! Writes flat code as a program of the C subset: a struct for each structured type that slots need, a global for each slot,
+//! a function for each function, and for each instruction a statement, behind a label where something jumps to it.
 #![tactic(auto)]
 
 ghost use Rattle.std.specs.Prelude.{◌≡◌, ◌++◌, ◌<◌, ◌^◌, IfOk, OnOk, map, length};
 ghost use Rattle.og_csubset.specs.Fair.{Fair};
-ghost use Rattle.og_ir.specs.CellsOnly.{UsesCellsOnly};
 ghost use Rattle.og_cemit.specs.Emitted.{statements_at, statements_from, body_of as body_at, function_of, global_of, event_if, events_from, used, program_of, AreShort};
+ghost use Rattle.og_cemit.specs.Structs.{member_words, prefix_of as prefix_at, AreFew};
 ghost use Rattle.og_cemit.specs.Program.{IsProgramOf};
 
 mod marks;
+mod standing;
 mod statement;
+mod structs;
+mod words;
 
 use crate::marks::{is_marked, targets_of, used_of};
 use crate::statement::{label_of, statement_of};
-use og_csubset::{CFunction, CGlobal, CProgram, CStmt, CType};
+use crate::structs::{structs_of, type_of_slot};
+use crate::words::{prefix_of, words_of};
+use og_csubset::{CFunction, CGlobal, CProgram, CStmt};
 use og_ir::{FlatFn, Instr, Ir};
 use og_model::Model;
 use og_names::{NoMemory, Word};
@@ -23,32 +28,40 @@ use std::alloc::Global;
 /// The program of flat code. It declares the events that the code shows.
 pub fn emit(alloc: Global, ir: &Ir, model: &Model) -> Result<CProgram, NoMemory>
     requires fair { Fair ir.now model.now }
-    requires cells { UsesCellsOnly ir.now }
     ensures { IfOk result (IsProgramOf ir.now model.now) }
 {
-    let program = written(alloc, ir)?;
+    let program = written(alloc, ir, model)?;
     Ok(program)
 }
 
-fn written(alloc: Global, ir: &Ir) -> Result<CProgram, NoMemory>
-    ensures program { IfOk result (λ program. program ≡ program_of ir.now) }
+fn written(alloc: Global, ir: &Ir, model: &Model) -> Result<CProgram, NoMemory>
+    ensures program { IfOk result (λ program. program ≡ program_of ir.now model.now) }
     ensures short { OnOk result (AreShort ir.now.functions) }
+    ensures few { OnOk result (AreFew model.now.types) }
 {
+    let prefix = prefix_of(alloc, ir)?;
+    let words = words_of(alloc, model)?;
+    let (prefix, words) = (prefix.as_slice(), words.as_slice());
     Ok(CProgram {
-        structs: Items::new(alloc),
-        globals: globals_of(alloc, ir)?,
+        structs: structs_of(alloc, ir, model, prefix, words)?,
+        globals: globals_of(alloc, ir, model, prefix)?,
         events: events_of(alloc, ir)?,
-        functions: functions_of(alloc, ir, ir.functions.as_slice())?,
+        functions: functions_of(alloc, ir, model, words, ir.functions.as_slice())?,
     })
 }
 
-fn globals_of(alloc: Global, ir: &Ir) -> Result<Items<CGlobal>, NoMemory>
-    ensures { IfOk result (λ globals. globals ≡ map global_of ir.now.slots) }
+fn globals_of(
+    alloc: Global,
+    ir: &Ir,
+    model: &Model,
+    prefix: &[u8],
+) -> Result<Items<CGlobal>, NoMemory>
+    ensures { IfOk result (λ globals. globals ≡ map (global_of prefix.now model.now.types) ir.now.slots) }
 {
     let mut globals = Items::new(alloc);
     for slot in ir.slots.as_slice() {
         globals.push(CGlobal {
-            kind: CType::Int64,
+            kind: type_of_slot(alloc, model.types.as_slice(), prefix, slot.sort)?,
             name: slot.name.copy(alloc)?,
         })?;
     }
@@ -86,28 +99,44 @@ fn push_event(
     Ok(())
 }
 
-fn functions_of(alloc: Global, ir: &Ir, code: &[FlatFn]) -> Result<Items<CFunction>, NoMemory>
-    ensures functions { IfOk result (λ functions. functions ≡ map (function_of ir.now) code.now) }
+fn functions_of(
+    alloc: Global,
+    ir: &Ir,
+    model: &Model,
+    words: &[Items<Word>],
+    code: &[FlatFn],
+) -> Result<Items<CFunction>, NoMemory>
+    requires words { words.now ≡ member_words model.now }
+    ensures functions { IfOk result (λ functions. functions ≡ map (function_of ir.now model.now) code.now) }
     ensures short { OnOk result (AreShort code.now) }
 {
     let mut functions = Items::new(alloc);
     for function in code {
         functions.push(CFunction {
             name: function.name.copy(alloc)?,
-            body: body_of(alloc, ir, function)?,
+            body: body_of(alloc, ir, model, words, function)?,
         })?;
     }
     Ok(functions)
 }
 
-fn body_of(alloc: Global, ir: &Ir, function: &FlatFn) -> Result<Items<CStmt>, NoMemory>
-    ensures body { IfOk result (λ body. body ≡ body_at ir.now function.now) }
+fn body_of(
+    alloc: Global,
+    ir: &Ir,
+    model: &Model,
+    words: &[Items<Word>],
+    function: &FlatFn,
+) -> Result<Items<CStmt>, NoMemory>
+    requires words { words.now ≡ member_words model.now }
+    ensures body { IfOk result (λ body. body ≡ body_at ir.now model.now function.now) }
     ensures short { OnOk result (length function.now.code < 2 ^ 64) }
 {
     let marks = targets_of(alloc, function.code.as_slice())?;
     statements_of(
         alloc,
         ir,
+        model,
+        words,
         function,
         marks.as_slice(),
         function.code.as_slice(),
@@ -118,15 +147,28 @@ fn body_of(alloc: Global, ir: &Ir, function: &FlatFn) -> Result<Items<CStmt>, No
 fn statements_of(
     alloc: Global,
     ir: &Ir,
+    model: &Model,
+    words: &[Items<Word>],
     function: &FlatFn,
     marks: &[bool],
     code: &[Instr],
 ) -> Result<Items<CStmt>, NoMemory>
-    ensures { IfOk result (λ body. body ≡ statements_from ir.now function.now marks.now 0 code.now) }
+    requires words { words.now ≡ member_words model.now }
+    ensures { IfOk result (λ body. body ≡ statements_from ir.now model.now function.now marks.now 0 code.now) }
 {
     let mut body = Items::new(alloc);
     for (place, instruction) in code.iter().enumerate() {
-        push_statements(alloc, &mut body, ir, function, marks, place, instruction)?;
+        push_statements(
+            alloc,
+            &mut body,
+            ir,
+            model,
+            words,
+            function,
+            marks,
+            place,
+            instruction,
+        )?;
     }
     Ok(body)
 }
@@ -136,16 +178,19 @@ fn push_statements(
     alloc: Global,
     body: &mut Items<CStmt>,
     ir: &Ir,
+    model: &Model,
+    words: &[Items<Word>],
     function: &FlatFn,
     marks: &[bool],
     place: usize,
     instruction: &Instr,
 ) -> Result<(), NoMemory>
-    ensures { OnOk result (body.new ≡ body.old ++ statements_at ir.now function.now marks.now place instruction.now) }
+    requires words { words.now ≡ member_words model.now }
+    ensures { OnOk result (body.new ≡ body.old ++ statements_at ir.now model.now function.now marks.now place instruction.now) }
 {
     if is_marked(marks, place) {
         body.push(CStmt::Label(label_of(alloc, function, place)?))?;
     }
-    body.push(statement_of(alloc, ir, function, instruction)?)?;
+    body.push(statement_of(alloc, ir, model, words, function, instruction)?)?;
     Ok(())
 }

@@ -1,11 +1,16 @@
 //! Statements of instructions.
 ghost use Rattle.std.specs.Prelude.{◌≡◌, ◌++◌, [], ◌∷◌, IfOk, OnOk, map, slice_get};
 ghost use Rattle.og_csubset.specs.FlatText.{slot_word, operator_of as operator_at, relation_of as relation_at};
-ghost use Rattle.og_cemit.specs.Emitted.{label_at, hint, place_at, number_of as number_at, test_of as test_at, case_at, statement_at};
+ghost use Rattle.og_cemit.specs.Emitted.{label_at, hint, step_behind, selectors, selector_of as selector_at, place_of as place_at, number_of as number_at, test_of as test_at, case_at, statement_at};
+ghost use Rattle.og_cemit.specs.Structs.{member_words, member_word};
+ghost use Rattle.og_cemit.specs.Standing.{held};
 
+use crate::standing::{Standing, standing_after, standing_in};
+use crate::structs::word_at;
 use itoa::Buffer;
-use og_csubset::{CCase, CExpr, COp, CPlace, CRel, CStmt, CTest};
-use og_ir::{Case, Flat, FlatFn, FlatOp, FlatRel, Instr, Ir, Slot, Test};
+use og_csubset::{CCase, CExpr, COp, CPlace, CRel, CStep, CStmt, CTest};
+use og_ir::{Case, Flat, FlatFn, FlatOp, FlatRel, Instr, Ir, Slot, Step2, Test};
+use og_model::Model;
 use og_names::{NoMemory, Word};
 use sqlite_items::{Boxed, Items};
 use std::alloc::Global;
@@ -14,27 +19,30 @@ use std::alloc::Global;
 pub fn statement_of(
     alloc: Global,
     ir: &Ir,
+    model: &Model,
+    words: &[Items<Word>],
     function: &FlatFn,
     instruction: &Instr,
 ) -> Result<CStmt, NoMemory>
-    ensures { IfOk result (λ statement. statement ≡ statement_at ir.now function.now instruction.now) }
+    requires words { words.now ≡ member_words model.now }
+    ensures { IfOk result (λ statement. statement ≡ statement_at ir.now model.now function.now instruction.now) }
 {
     match instruction {
         Instr::Set(slot, number) => Ok(CStmt::Assign(
-            place_of(alloc, ir, slot)?,
-            number_of(alloc, ir, number)?,
+            place_of(alloc, ir, model, words, slot)?,
+            number_of(alloc, ir, model, words, number)?,
         )),
         Instr::Copy(to, from) => Ok(CStmt::Assign(
-            place_of(alloc, ir, to)?,
-            CExpr::Read(place_of(alloc, ir, from)?),
+            place_of(alloc, ir, model, words, to)?,
+            CExpr::Read(place_of(alloc, ir, model, words, from)?),
         )),
         Instr::Branch(test, to) => Ok(CStmt::IfGoto(
-            test_of(alloc, ir, test)?,
+            test_of(alloc, ir, model, words, test)?,
             label_of(alloc, function, *to as usize)?,
         )),
         Instr::Goto(to) => Ok(CStmt::Goto(label_of(alloc, function, *to as usize)?)),
         Instr::Table(number, cases, otherwise) => Ok(CStmt::Switch(
-            number_of(alloc, ir, number)?,
+            number_of(alloc, ir, model, words, number)?,
             cases_of(alloc, function, cases.as_slice())?,
             label_of(alloc, function, *otherwise as usize)?,
         )),
@@ -93,13 +101,65 @@ fn hint_of(alloc: Global, function: &FlatFn, place: usize) -> Result<Vec<u8>, No
     }
 }
 
-/// A slot is read and set whole until data has shapes.
-fn place_of(alloc: Global, ir: &Ir, slot: &Slot) -> Result<CPlace, NoMemory>
-    ensures { IfOk result (λ place. place ≡ place_at ir.now slot.now.base) }
+/// A slot, or a part of it: what each selector leads to says what the next member is named.
+#[cycle(expression)]
+fn place_of(
+    alloc: Global,
+    ir: &Ir,
+    model: &Model,
+    words: &[Items<Word>],
+    slot: &Slot,
+) -> Result<CPlace, NoMemory>
+    requires words { words.now ≡ member_words model.now }
+    ensures { IfOk result (λ place. place ≡ place_at ir.now model.now slot.now) }
 {
+    let mut path = Items::new(alloc);
+    let mut standing = standing_in(ir, model, slot.base);
+    for selector in slot.path.as_slice() {
+        path.push(selector_of(alloc, ir, model, words, standing, selector)?)?;
+        standing = standing_after(model, standing, selector);
+    }
     Ok(CPlace {
         name: name_of(alloc, ir, slot.base)?,
-        path: Items::new(alloc),
+        path,
+    })
+}
+
+#[cycle(expression)]
+#[tactic(auto, using(crate::proofs::Opens::opens))]
+fn selector_of(
+    alloc: Global,
+    ir: &Ir,
+    model: &Model,
+    words: &[Items<Word>],
+    standing: Standing,
+    selector: &Step2,
+) -> Result<CStep, NoMemory>
+    requires words { words.now ≡ member_words model.now }
+    ensures { IfOk result (λ step. step ≡ step_behind (member_words model.now) (held standing) (selector_at ir.now model.now selector.now)) }
+{
+    match selector {
+        Step2::Field(field) => Ok(CStep::Member(member_of(alloc, words, standing, *field)?)),
+        Step2::Index(index) => Ok(CStep::At(number_of(alloc, ir, model, words, index)?)),
+    }
+}
+
+/// The name of a member of what stands there.
+fn member_of(
+    alloc: Global,
+    words: &[Items<Word>],
+    standing: Standing,
+    field: u32,
+) -> Result<Word, NoMemory>
+    ensures { IfOk result (λ word. word ≡ member_word words.now (held standing) field) }
+{
+    if let Standing::Whole(id) = standing {
+        if let Some(words) = words.get(id.0 as usize) {
+            return word_at(alloc, words.as_slice(), field as usize);
+        }
+    }
+    Ok(Word {
+        bytes: Items::new(alloc),
     })
 }
 
@@ -115,16 +175,24 @@ fn name_of(alloc: Global, ir: &Ir, base: u32) -> Result<Word, NoMemory>
 }
 
 #[tactic(auto, using(crate::proofs::Opens::opens))]
-fn number_of(alloc: Global, ir: &Ir, number: &Flat) -> Result<CExpr, NoMemory>
-    ensures { IfOk result (λ expression. expression ≡ number_at ir.now number.now) }
+#[cycle(expression)]
+fn number_of(
+    alloc: Global,
+    ir: &Ir,
+    model: &Model,
+    words: &[Items<Word>],
+    number: &Flat,
+) -> Result<CExpr, NoMemory>
+    requires words { words.now ≡ member_words model.now }
+    ensures { IfOk result (λ expression. expression ≡ number_at ir.now model.now number.now) }
 {
     match number {
         Flat::Number(number) => Ok(CExpr::Number(*number)),
-        Flat::Read(slot) => Ok(CExpr::Read(place_of(alloc, ir, slot)?)),
+        Flat::Read(slot) => Ok(CExpr::Read(place_of(alloc, ir, model, words, slot)?)),
         Flat::Op(op, left, right) => Ok(CExpr::Op(
             operator_of(*op),
-            Boxed::new(alloc, number_of(alloc, ir, left.get())?)?,
-            Boxed::new(alloc, number_of(alloc, ir, right.get())?)?,
+            Boxed::new(alloc, number_of(alloc, ir, model, words, left.get())?)?,
+            Boxed::new(alloc, number_of(alloc, ir, model, words, right.get())?)?,
         )),
     }
 }
@@ -141,13 +209,20 @@ fn operator_of(op: FlatOp) -> COp
     }
 }
 
-fn test_of(alloc: Global, ir: &Ir, test: &Test) -> Result<CTest, NoMemory>
-    ensures { IfOk result (λ made. made ≡ test_at ir.now test.now) }
+fn test_of(
+    alloc: Global,
+    ir: &Ir,
+    model: &Model,
+    words: &[Items<Word>],
+    test: &Test,
+) -> Result<CTest, NoMemory>
+    requires words { words.now ≡ member_words model.now }
+    ensures { IfOk result (λ made. made ≡ test_at ir.now model.now test.now) }
 {
     Ok(CTest {
         op: relation_of(test.op),
-        left: Boxed::new(alloc, number_of(alloc, ir, &test.left)?)?,
-        right: Boxed::new(alloc, number_of(alloc, ir, &test.right)?)?,
+        left: Boxed::new(alloc, number_of(alloc, ir, model, words, &test.left)?)?,
+        right: Boxed::new(alloc, number_of(alloc, ir, model, words, &test.right)?)?,
     })
 }
 

@@ -68,6 +68,8 @@ counts_and_leaves_its_type = refl
 pub counting_is_fair : CountingIsFair
 unfolding trees flat flat_in_64_bits event_of end_of value_in blank value_of is_number flat_piece digits out-Flat roll-Flat out-Value block.the_depth Rolled.depth Carrier.fold Carrier.roll Carrier.out block.shape-the_row-Step2-0 block.hidden-the_row-Step2-0 block.shown-the_row-Step2-0 block.shape-the_row-Flat-1 block.hidden-the_row-Flat-1 block.shown-the_row-Flat-1 Carrier.hidden Carrier.shown
 counting_is_fair = record {
+  types = refl;
+  supported = refl;
   right = refl;
   names = refl;
   differ = refl;

@@ -6,6 +6,7 @@ use Rattle.std.specs.List.{list_all, list_any}
 use Rattle.og_types.specs.declared.Sort.{Sort}
 use Rattle.og_types.specs.declared.Sort.TheVariants as sort
 use Rattle.og_types.specs.declared.TypeId.{TypeId}
+use Rattle.og_types.specs.Table.{is_table}
 use Rattle.og_model.specs.declared.Model.{Model}
 use Rattle.og_model.specs.declared.EventId.{EventId}
 use Rattle.og_ir.specs.declared.Ir.{Ir}
@@ -84,6 +85,24 @@ abbrev pub item_of : List Sort → Held → Option Held
 item_of sorts One = None
 item_of sorts (Whole t) = None
 item_of sorts (Array item) = held_as sorts item
+
+-- each part of the type is supported, but for the items of an array that is left out
+abbrev pub supported_by : (TypeId → Bool) → Sort → Bool
+supported_by inside (sort.Sequence parts) = list_all (λ p. inside p.sort) parts
+supported_by inside (sort.Choice parts) = list_all (λ p. inside p.sort) parts
+supported_by inside (sort.SeqOf lo zero item) = true
+supported_by inside (sort.SeqOf lo (suc hi) item) = inside item
+supported_by inside sort.Opaque = false
+supported_by inside s = true
+
+abbrev pub supported_within : ℕ → List Sort → TypeId → Bool
+supported_within zero sorts t = false
+supported_within (suc depth) sorts t = passes (supported_by (supported_within depth sorts)) (slice_get sorts t.0)
+
+-- a number, or values of a type that is there and supported, with all that it holds
+abbrev pub is_supported : List Sort → SlotSort → Bool
+is_supported sorts slot_sort.Cell = true
+is_supported sorts (slot_sort.Shaped t) = supported_within (t.0 + 1) sorts t
 
 -- what the selectors lead to, where indices are numbers
 abbrev pub held_after : (Flat → Bool) → List Sort → List Step2 → Held → Option Held
@@ -183,6 +202,9 @@ has_values model ir k (event ∷ events) =
 
 -- Flat code that can be printed.
 pub record Fair (ir : Ir) (model : Model) : Type 0 where
+  -- types refer downward, and each slot holds numbers alone
+  pub types : IsTrue (is_table model.types)
+  pub supported : IsTrue (list_all (λ slot. is_supported model.types slot.sort) ir.slots)
   -- slots, parts, events, functions and places of jumps are there and are used as what they are, literals lie in 64 bits,
   -- the cases of a table differ, and calls go to earlier functions
   pub right : IsTrue (are_right model.types ir 0 ir.functions)

@@ -1,5 +1,5 @@
 -- The flat code of a model can be printed.
-use Rattle.std.proofs.Common.{arith}
+use Rattle.std.proofs.Common.{refl, arith}
 use Rattle.og_model.specs.declared.Model.{Model}
 use Rattle.og_csubset.specs.Fair.{Fair}
 use Rattle.og_flatten.specs.FlatCode.{code_of}
@@ -13,6 +13,8 @@ use Rattle.og_flatten.proofs.Apart.{apart}
 
 pub fair : (model : Model) → IsMade model → Fair (code_of model) model
 fair model made = record {
+  types = made.formed.resolved.types;
+  supported = refl;
   right = functions_right model made;
   names = named model made;
   differ = apart model made;

@@ -33,7 +33,7 @@ same_code Are meaning code other enough others many same runs = record {
 -- a program of the code of a model does what the model does
 pub behaves : (model : Model) (ir : Ir) (program : CProgram) → IsCodeOf model ir → IsProgramOf ir model program → SameBehaviour model program
 behaves model ir program code of =
-    let at = of.shows code.safe in
+    let at = of.shows in
     record {
       loads = of.loads;
       runs = same_code (AreStimuli model) (sdl model) (paced at.pace ir model) (c program model) (enough_at at.pace ir) (enough program)

@@ -4,6 +4,6 @@ use Rattle.og_cemit.proofs.functions_of.Given as goal
 
 abbrev pub invariant-loop-function : goal.invariant-loop-function
 invariant-loop-function l = record {
-  made : l.functions ≡ map (function_of l.ir) (take l.function-index l.code);
+  made : l.functions ≡ map (function_of l.ir l.model) (take l.function-index l.code);
   short : AreShort (take l.function-index l.code);
 }

@@ -1,6 +1,6 @@
 use Rattle.std.proofs.Common.{◌≡◌, take, map}
 use Rattle.og_ir.specs.declared.Case.{Case}
-use Rattle.og_cemit.specs.Emitted.{all_marked}
+use Rattle.og_cemit.specs.Marks.{all_marked}
 use Rattle.og_cemit.proofs.marks.mark_cases.Given as goal
 
 abbrev pub invariant-loop-case : goal.invariant-loop-case

@@ -1,6 +1,7 @@
 use Rattle.std.proofs.Common.{◌≡◌, take}
 use Rattle.std.specs.List.{flat_map}
-use Rattle.og_cemit.specs.Emitted.{all_marked, shows}
+use Rattle.og_cemit.specs.Marks.{all_marked}
+use Rattle.og_cemit.specs.Emitted.{shows}
 use Rattle.og_cemit.proofs.marks.mark_events.Given as goal
 
 abbrev pub invariant-loop-instruction : goal.invariant-loop-instruction

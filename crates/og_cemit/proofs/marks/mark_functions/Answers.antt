@@ -1,7 +1,8 @@
 use Rattle.std.proofs.Common.{ap, ◌∙◌}
 use Rattle.std.specs.List.{flat_map}
 use Rattle.og_ir.specs.declared.FlatFn.{FlatFn}
-use Rattle.og_cemit.specs.Emitted.{all_marked, shows}
+use Rattle.og_cemit.specs.Marks.{all_marked}
+use Rattle.og_cemit.specs.Emitted.{shows}
 use Rattle.og_cemit.proofs.Joins.{mark_more}
 use Rattle.og_cemit.proofs.marks.mark_functions.Goals as goal
 

@@ -1,6 +1,7 @@
 use Rattle.std.proofs.Common.{◌≡◌, take}
 use Rattle.std.specs.List.{flat_map}
-use Rattle.og_cemit.specs.Emitted.{all_marked, jumps}
+use Rattle.og_cemit.specs.Marks.{all_marked}
+use Rattle.og_cemit.specs.Emitted.{jumps}
 use Rattle.og_cemit.proofs.marks.mark_jumps.Given as goal
 
 abbrev pub invariant-loop-instruction : goal.invariant-loop-instruction
