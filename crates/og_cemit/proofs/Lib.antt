@@ -21,6 +21,7 @@ pub mod SameRuns
 pub mod SameSteps
 pub mod Shapes
 pub mod StructCells
+pub mod StructExampleRuns
 pub mod StructLoops
 pub mod StructNames
 pub mod StructText

@@ -262,7 +262,7 @@ expression_of ir model (flat.Number n) = c.Number n
 expression_of ir model (flat.Read slot) = c.Read (place_of ir model slot)
 expression_of ir model (flat.Op o a b) = c.Op (operator_of o) (number_of ir model a) (number_of ir model b)
 
-rolled : (ir : Ir) (model : Model) (shape : Flat-F Flat Step2 Slot) → number_of ir model (roll-Flat shape) ≡ expression_of ir model shape
+pub rolled : (ir : Ir) (model : Model) (shape : Flat-F Flat Step2 Slot) → number_of ir model (roll-Flat shape) ≡ expression_of ir model shape
 unfolding number_of selector_of
 rolled ir model (flat.Number n) = fold-roll-Flat CExpr _ _ number_layer selector_layer (place_layer ir model) (flat.Number n)
 rolled ir model (flat.Read slot) =

@@ -1,7 +1,8 @@
 -- The program of flat code, from its parts. A global stands for each slot, and a function for each function. A part of a
--- slot is the same part of its global: a member, or an element of an array. Each instruction becomes one statement; where something of the same function jumps to it, a label stands before the statement.
--- A label is the word that the code has for the place, or `at`, then `__` and the place in decimal digits, so that no two
--- labels of a function meet. The events that some instruction shows are declared, in the order of their numbers.
+-- slot is the same part of its global: a member, or an element of an array. Each instruction becomes one statement; where
+-- something of the same function jumps to it, a label stands before the statement. A label is the word that the code has for
+-- the place, or `at`, then `__` and the place in decimal digits, so that no two labels of a function meet. The events that
+-- some instruction shows are declared, in the order of their numbers (C99 6.5.2, 6.7.2.1 and 6.8).
 use Rattle.std.specs.Prelude.{ℕ, ◌+◌, ◌^◌, ◌<◌, List, [], ◌∷◌, ◌++◌, Bool, true, false, if◌then◌else◌, Option, Some, None, codes, map, flat_map, length, replicate, slice_get, decimal, ⊤}
 use Rattle.og_types.specs.Table.{is_empty}
 use Rattle.og_names.specs.declared.Word.{Word}

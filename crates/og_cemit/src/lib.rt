@@ -8,12 +8,14 @@ ghost use Rattle.og_cemit.specs.Emitted.{statements_at, statements_from, body_of
 ghost use Rattle.og_cemit.specs.Structs.{member_words, prefix_of as prefix_at, AreFew};
 ghost use Rattle.og_cemit.specs.Program.{IsProgramOf};
 
+mod examples;
 mod marks;
 mod standing;
 mod statement;
 mod structs;
 mod words;
 
+pub use crate::examples::structs_are_made;
 use crate::marks::{is_marked, targets_of, used_of};
 use crate::statement::{label_of, statement_of};
 use crate::structs::{structs_of, type_of_slot};
