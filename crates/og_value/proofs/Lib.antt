@@ -16,3 +16,4 @@ pub mod Decimals
 pub mod Placed
 pub mod Back
 pub mod Fitting
+pub mod Again
