@@ -12,3 +12,8 @@ pub mod Means
 pub mod Told
 pub mod Within
 pub mod Written
+pub mod Decimals
+pub mod Placed
+pub mod Back
+pub mod Fitting
+pub mod Again

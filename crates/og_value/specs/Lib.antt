@@ -4,3 +4,5 @@ pub mod Reads
 pub mod Shows
 pub mod Scans
 pub mod Answers
+pub mod Named
+pub mod Laws

@@ -5,6 +5,7 @@ ghost use Rattle.std.specs.Prelude.{◌≡◌};
 ghost use Rattle.og_value.specs.declared.ValueError.TheVariants.{NoMemory as OutOfMemory};
 
 mod forms;
+pub mod laws;
 mod membership;
 mod parts;
 mod read;
