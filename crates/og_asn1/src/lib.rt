@@ -2,6 +2,7 @@
 #![tactic(auto)]
 
 mod enumeration;
+mod flat;
 pub mod grammar;
 pub mod kind;
 mod left;
@@ -13,6 +14,7 @@ mod run;
 mod syntax;
 mod types;
 mod value;
+mod view;
 
 pub use parse::parse_modules;
 pub use syntax::{
@@ -20,3 +22,4 @@ pub use syntax::{
     ImportsTree, ModuleTree, Name, OfTree, PresenceTree, RunTree, SignedTree, SizeTree, SymbolTree,
     TagMode, TagTree, Tagging, TaggingTree, TypeTree, ValueNode, ValueTree,
 };
+pub use view::{Constant, DataView, NamedType};
