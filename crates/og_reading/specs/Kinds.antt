@@ -23,6 +23,8 @@ kind_of (token.Text text) = 2
 kind_of token.End = 3
 kind_of (token.Mark mark) = kind_of_mark mark
 kind_of (token.Keyword word) = kind_of_keyword word
+kind_of (token.AsnKeyword word) = 255
+kind_of (token.AsnMark mark) = 255
 
 abbrev pub kinds_of : List Spanned → List ℕ
 kinds_of tokens = map (λ t. kind_of t.token) tokens

@@ -174,7 +174,7 @@ pub const WITH: u8 = 82;
 
 pub const XOR: u8 = 83;
 
-/// The kind of a token. A name that is not spelt like one has none.
+/// The kind of a token. A name that is not spelt like one, and a token of ASN.1, has none.
 pub fn kind_of(token: &Token) -> u8
     ensures { result ≡ kind_of token.now }
 {
@@ -191,6 +191,8 @@ pub fn kind_of(token: &Token) -> u8
         Token::End => 3,
         Token::Mark(mark) => kind_of_mark(*mark),
         Token::Keyword(word) => kind_of_keyword(*word),
+        Token::AsnKeyword(_) => 255,
+        Token::AsnMark(_) => 255,
     }
 }
 
