@@ -14,7 +14,6 @@ pub struct DclTree {
 /// `item = names hname [ ":=" expr ]`
 #[derive(Drop)]
 pub struct ItemTree {
-    pub place: Place,
     pub names: Items<Name>,
     pub sort: HyphenedName,
     pub initial: Option<ExprTree>,
@@ -39,7 +38,6 @@ pub struct FparTree {
 /// `formal = [ IN | IN "/" OUT ] names hname`
 #[derive(Drop)]
 pub struct FormalTree {
-    pub place: Place,
     pub passing: Passing,
     pub names: Items<Name>,
     pub sort: HyphenedName,

@@ -60,7 +60,6 @@ fn is_name_byte(byte: u8) -> bool
 /// `name { "-" name }`, a name that in ASN.1 is written with hyphens. The hyphens are taken for underscores.
 #[derive(Drop)]
 pub struct HyphenedName {
-    pub place: Place,
     /// The names between the hyphens, one at least.
     pub parts: Items<Name>,
 }
@@ -72,7 +71,7 @@ pub struct TextTree {
     pub text: Word,
 }
 
-/// `[ COMMENT text ] ";"`, the end of a statement.
+/// `end = [ COMMENT text ] ";"`. Its place is that of `;`.
 #[derive(Drop)]
 pub struct EndTree {
     pub place: Place,

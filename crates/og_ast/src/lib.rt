@@ -1,7 +1,7 @@
 //! Trees of SDL/PR texts (Z.106, the textual form of Z.100): a struct or an enum for each production, with its parts as
 //! fields. A tree holds each choice that its text makes, so that its tokens can be told from it.
 //!
-//! The place of a tree is that of its first token, unless it says otherwise.
+//! A tree has the place of its first token, unless it says otherwise; one that begins with a name or another tree has theirs.
 #![tactic(auto)]
 
 mod data;
@@ -30,6 +30,6 @@ pub use system::{
 };
 pub use transition::{
     ActionTree, AnswerTree, ArgTree, AssignTree, AssignedTree, BranchTree, CallTree, ConstTree,
-    ConstValue, DecisionTree, ElseTree, OutTree, QuestionTree, StepTree, TerminatorKind,
+    DecisionTree, ElseTree, OutTree, QuestionTree, StepTree, TerminatorKind,
     TerminatorTree, TransitionTree,
 };

@@ -3,12 +3,10 @@ use crate::{EndTree, ExprTree, Name, RelationOperator, TextTree, VarTree};
 use og_base::Place;
 use sqlite_items::Items;
 
-/// `transition = { [ name ":" ] action end } [ [ name ":" ] terminator end ]`. The place of an empty one is that of the
-/// token behind it.
+/// `transition = { [ name ":" ] action end } [ [ name ":" ] terminator end ]`
 #[cycle(transition)]
 #[derive(Drop)]
 pub struct TransitionTree {
-    pub place: Place,
     pub steps: Items<StepTree>,
     pub terminator: Option<TerminatorTree>,
 }
@@ -41,7 +39,6 @@ pub enum ActionTree {
 /// `assign = var ":=" ( CALL name [ args ] | expr )`
 #[derive(Drop)]
 pub struct AssignTree {
-    pub place: Place,
     pub target: VarTree,
     pub value: AssignedTree,
 }
@@ -118,20 +115,13 @@ pub enum AnswerTree {
     Relation(Place, RelationOperator, ConstTree),
 }
 
-/// `const`
+/// `const = [ "-" ] number | name | TRUE | FALSE`, with the place of its first token.
 #[derive(Drop)]
-pub struct ConstTree {
-    pub place: Place,
-    pub value: ConstValue,
-}
-
-/// `[ "-" ] number | name | TRUE | FALSE`
-#[derive(Drop)]
-pub enum ConstValue {
-    Number(u64),
-    Negative(u64),
+pub enum ConstTree {
+    Number(Place, u64),
+    Negative(Place, u64),
     Name(Name),
-    Truth(bool),
+    Truth(Place, bool),
 }
 
 /// `[ name ":" ] terminator end`. Its place is the terminator's keyword.

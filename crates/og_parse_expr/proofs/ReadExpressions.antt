@@ -40,7 +40,7 @@ use Rattle.og_parse_expr.specs.declared.operator.Level.TheVariants as level
 use Rattle.og_parse_expr.specs.declared.operator.Sign.{Sign as Operation}
 use Rattle.og_parse_expr.specs.declared.operator.Related.{Related}
 use Rattle.og_parse_expr.specs.declared.table.TheConstants.{EXPRESSION}
-use Rattle.og_parse_expr.specs.Reading.{plain, joined, variable, variable_expr, sign_as, product_operator_at, sum_operator_at, relation_as, relation_sign_at, relation_operator_at, with_word, and_operator_at, or_operator_at, operator_at, Inside, step, led, at_most_one, product_at, sum_at, relation_at, conjunction_at, right_at, step_at, operators_at, tails_at, field_as, field_in, field_at, index_at, selector_at, variable_at, bracketed_at, choice_at, named_at, after_name_at, listed_rest_at, first_value_at, first_operand_at, leading_at, item_at, component_value_at, component_at, more_component_at, items_at, after_first_name_at, inside_at, expr_by, operand_by, braces_by, inside, expr_at}
+use Rattle.og_parse_expr.specs.Reading.{plain, joined, variable, variable_expr, sign_as, product_operator_at, sum_operator_at, relation_as, relation_sign_at, relation_operator_at, with_word, and_operator_at, or_operator_at, operator_at, Inside, step, led, at_most_one, product_at, sum_at, relation_at, conjunction_at, right_at, step_at, operators_at, tails_at, field_as, field_in, field_at, index_at, selector_at, variable_at, bracketed_at, choice_at, named_at, after_name_at, listed_rest_at, first_value_at, first_operand_at, leading_at, item_at, component_value_at, component_at, more_component_at, items_at, after_first_name_at, inside_at, expr_by, operand_by, braces_by, inside, expr_at, var_at}
 use Rattle.og_parse_expr.specs.Grammar.{BeginsNegative, operation, IsProductOperator, times, divided, modulo, remainder, IsSumOperator, plus, minus, IsRelation, equal, not_equal, less, less_or_equal, greater, greater_or_equal, IsAndOperator, and_plain, and_then, IsOrOperator, or_plain, or_else, xor}
 use Rattle.og_parse_expr.specs.Grammar.{IsField, IsExpr, choice_value, no_choice_value, IsOr, or_alone, or_more, IsAnd, and_alone, and_more, IsRel, rel_alone, rel_more, IsSum, sum_alone, sum_more, IsProd, prod_alone, prod_more, IsUnary, negative, denied, number, true_, false_, var, bracketed, braces, IsVar, selected, IsSelectors, no_selector, more_selectors, IsSelector, dot, exclamation, index, IsInside, no_items, some_items, some_components, IsItem, item, AreMoreItems, no_more_items, more_items, IsComponent, component, AreMoreComponents, no_more_components, more_components}
 use Rattle.og_parse_expr.proofs.Rules.{HasExpressions}
@@ -497,3 +497,10 @@ all_read table has (suc n) = further_out table has n (inside n) (all_read table 
 -- what is read as an expression is one
 pub reads_expr : (table : List Symbol) (has : HasExpressions table) (n : ℕ) (s : Symbol) → IsPart 1 s → Reads table n (s ∷ []) (expr_at n) IsExpr
 reads_expr table has n s is = (all_read table has n).expr s is
+
+-- what is read as a variable is one
+pub reads_var : (table : List Symbol) (has : HasExpressions table) (n p : ℕ) (s : Symbol) → IsPart p s → rules_of p table ≡ (Token 0 Keeps ∷ Many 23 ∷ []) ∷ [] → Reads table n (s ∷ []) (var_at n) IsVar
+unfolding var_at Behind
+reads_var table has n p s is rules =
+    reads_part p s is
+    (rule (reads_as (λ x. x.1) IsVar (λ x ts us b. b.2 ts b.0 b.1 no_selector) (reads_then reads_name (λ name. variables table has n (inside n) (all_read table has n) name [])))) [] rules

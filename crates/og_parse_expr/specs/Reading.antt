@@ -316,3 +316,7 @@ operand_at n = (inside n).operand
 
 abbrev pub braces_at : ℕ → Take ExprTree
 braces_at n = (inside n).braces
+
+-- a variable on its own
+unfoldable pub var_at : ℕ → Take VarTree
+var_at n rest = let start = after rest in variable_at (inside n) (name_in start) [] (behind start)

@@ -2,7 +2,7 @@
 //! and braces stand one inside the other.
 ghost use Rattle.std.specs.Prelude.{◌≡◌, ◌∷◌, [], IfOk};
 ghost use Rattle.og_reading.specs.Reading.{rest_of, onto, more_of, next};
-ghost use Rattle.og_parse_expr.specs.Reading.{inside, right_at, step_at, operators_at, led_at, tails_at, index_at, selector_at, variable_at, bracketed_at, choice_at, named_at, after_name_at, listed_rest_at, first_value_at, first_operand_at, leading_at, item_at, component_value_at, component_at, more_component_at, items_at, after_first_name_at, inside_at, expr_at, operand_at, braces_at};
+ghost use Rattle.og_parse_expr.specs.Reading.{inside, right_at, step_at, operators_at, led_at, tails_at, index_at, selector_at, variable_at, bracketed_at, choice_at, named_at, after_name_at, listed_rest_at, first_value_at, first_operand_at, leading_at, item_at, component_value_at, component_at, more_component_at, items_at, after_first_name_at, inside_at, expr_at, operand_at, braces_at, var_at};
 
 use crate::make::{
     bracketed, choice_value, field_of, joined, minus, none_of, not, one_less, plain, variable_expr,
@@ -10,9 +10,40 @@ use crate::make::{
 use crate::operator::{Level, is_relation, operator_of};
 use og_ast::{ComponentTree, ExprNode, ExprTree, Name, SelectorKind, SelectorTree, VarTree};
 use og_names::NoMemory;
-use og_reading::{Left, single};
+use og_reading::{Left, Production, single};
 use sqlite_items::Items;
 use std::alloc::Global;
+
+/// `var = name { selector }`
+#[tactic(auto, unfolding(crate::specs::Reading::var_at))]
+pub fn var_of<'a>(
+    alloc: Global,
+    fuel: usize,
+    from: Left<'a>,
+) -> Result<(VarTree, Left<'a>), NoMemory>
+    ensures { IfOk result (λ x. (x.0, rest_of x.1) ≡ var_at fuel (rest_of from.entry)) }
+{
+    let start = from.after();
+    let name = start.name(alloc)?;
+    variable_of(alloc, fuel, name, Items::new(alloc), start.behind())
+}
+
+/// Expressions, as a production.
+pub struct ExprReader;
+
+impl Production for ExprReader {
+    type Tree = ExprTree;
+
+    ghost at = { expr_at };
+
+    fn read<'a>(
+        alloc: Global,
+        fuel: usize,
+        from: Left<'a>,
+    ) -> Result<(ExprTree, Left<'a>), NoMemory> {
+        expr_of(alloc, fuel, from)
+    }
+}
 
 /// `expr = name after_name | first_operand tails`
 #[cycle(expression)]

@@ -7,5 +7,7 @@ mod operator;
 mod part;
 mod table;
 
-pub use expression::expr_of;
+pub use expression::{ExprReader, expr_of, var_of};
+pub use make::one_less;
+pub use operator::{Related, relation_sign_of};
 pub use table::{EXPRESSION, EXPRESSION_PARTS, LAST};

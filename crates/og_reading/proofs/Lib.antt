@@ -4,3 +4,4 @@ pub mod KindsOfTokens
 pub mod Deriving
 pub mod ReadParts
 pub mod WrittenParts
+pub mod Lists

@@ -4,7 +4,7 @@ use Rattle.std.specs.Prelude.{◌≡◌, ℕ, List, [], ◌∷◌, Option, Some,
 use Rattle.og_base.specs.declared.Place.{Place}
 use Rattle.og_lexer.specs.declared.Keyword.{Keyword}
 use Rattle.og_lexer.specs.declared.Mark.{Mark}
-use Rattle.og_lexer.specs.declared.Mark.TheVariants.{Comma}
+use Rattle.og_lexer.specs.declared.Mark.TheVariants.{Comma, LeftParenthesis, RightParenthesis}
 use Rattle.og_lexer.specs.declared.Spanned.{Spanned}
 use Rattle.og_lexer.specs.declared.Token.{Token}
 use Rattle.og_lexer.specs.declared.Token.TheVariants as token
@@ -64,10 +64,24 @@ abbrev pub each : {X : Type 0} → (X → Text) → List X → Text
 each Is [] = nothing
 each Is (x ∷ xs) = Is x ▸ each Is xs
 
--- one at least, with commas between them
+-- one at least, with this mark between them
+abbrev pub separated_by : {X : Type 0} → Mark → (X → Text) → List X → Text
+separated_by mark Is [] tokens rest = ⊥
+separated_by mark Is (x ∷ xs) tokens rest = (Is x ▸ each (λ y. Passed mark ▸ Is y) xs) tokens rest
+
+-- with commas
 abbrev pub separated : {X : Type 0} → (X → Text) → List X → Text
-separated Is [] tokens rest = ⊥
-separated Is (x ∷ xs) tokens rest = (Is x ▸ each (λ y. Passed Comma ▸ Is y) xs) tokens rest
+separated = separated_by Comma
+
+-- such a list, or nothing where it is empty
+abbrev pub perhaps_separated : {X : Type 0} → (X → Text) → List X → Text
+perhaps_separated Is [] = nothing
+perhaps_separated Is (x ∷ xs) = separated Is (x ∷ xs)
+
+-- such a list in brackets, or nothing where it is empty
+abbrev pub in_brackets : {X : Type 0} → (X → Text) → List X → Text
+in_brackets Is [] = nothing
+in_brackets Is (x ∷ xs) = Passed LeftParenthesis ▸ separated Is (x ∷ xs) ▸ Passed RightParenthesis
 
 -- ---- what may not stand in front
 

@@ -117,10 +117,22 @@ pushed p xs rest = let x = p rest in (xs ++ x.0 ∷ [], x.1)
 abbrev pub more_of : {X : Type 0} → Take X → List X → Take (List X)
 more_of p = onto (pushed p)
 
--- a part behind a comma
+-- a part behind a mark
 abbrev pub next : {X : Type 0} → Take X → Take X
 next p rest = p (behind (after rest))
 
--- a part, and then others behind a comma each
+-- a part, and then others behind a mark each
 abbrev pub listed : {X : Type 0} → Take X → Take (List X)
 listed p rest = let x = p rest in more_of (next p) (x.0 ∷ []) x.1
+
+-- a part of its own that is such a list
+abbrev pub list_at : {X : Type 0} → Take X → Take (List X)
+list_at p rest = listed p (after rest)
+
+-- such a list in brackets, or nothing
+abbrev pub list_in_brackets : {X : Type 0} → Take X → Take (List X)
+list_in_brackets p rest = if goes_on rest then (let xs = list_at p (behind (after (after rest))) in (xs.0, behind xs.1)) else ([], after rest)
+
+-- such a list, or nothing
+abbrev pub list_or_none : {X : Type 0} → Take X → Take (List X)
+list_or_none p rest = if goes_on rest then list_at p (after rest) else ([], after rest)

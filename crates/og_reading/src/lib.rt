@@ -7,4 +7,4 @@ mod many;
 
 pub use kind::kind_of;
 pub use left::Left;
-pub use many::{Next, Production, listed, maybe, more_of, single};
+pub use many::{Listed, Next, Production, list_in_brackets, list_or_none, maybe, more_of, single};

@@ -1,6 +1,6 @@
 //! Repetitions.
 ghost use Rattle.std.specs.Prelude.{◌≡◌, ℕ, [], ◌∷◌, IfOk};
-ghost use Rattle.og_reading.specs.Reading.{Rest, Take, rest_of, next, more_of, listed, maybe};
+ghost use Rattle.og_reading.specs.Reading.{Rest, Take, rest_of, next, more_of, maybe, list_at, list_in_brackets, list_or_none};
 
 use crate::Left;
 use og_names::NoMemory;
@@ -42,7 +42,7 @@ pub fn more_of<'a, P: Production>(
     Ok((trees, left))
 }
 
-/// The production behind a comma.
+/// The production behind a mark.
 pub struct Next<P> {
     of: PhantomData<P>,
 }
@@ -57,18 +57,54 @@ impl<P: Production> Production for Next<P> {
     }
 }
 
-/// The production, and then others behind a comma each.
-pub fn listed<'a, P: Production>(
+/// A part of its own that is a list: the production, and then others behind a mark each.
+pub struct Listed<P> {
+    of: PhantomData<P>,
+}
+
+impl<P: Production> Production for Listed<P> {
+    type Tree = Items<P::Tree>;
+
+    ghost at = { λ n. list_at (P.at n) };
+
+    fn read<'a>(
+        alloc: Global,
+        fuel: usize,
+        from: Left<'a>,
+    ) -> Result<(Items<P::Tree>, Left<'a>), NoMemory> {
+        let (first, from) = P::read(alloc, fuel, from.after())?;
+        more_of::<Next<P>>(alloc, fuel, single(alloc, first)?, from)
+    }
+}
+
+/// Such a list in brackets, or nothing.
+pub fn list_in_brackets<'a, P: Production>(
     alloc: Global,
     fuel: usize,
     from: Left<'a>,
 ) -> Result<(Items<P::Tree>, Left<'a>), NoMemory>
-    ensures { IfOk result (λ x. (x.0, rest_of x.1) ≡ listed (P.at fuel) (rest_of from.entry)) }
+    ensures { IfOk result (λ x. (x.0, rest_of x.1) ≡ list_in_brackets (P.at fuel) (rest_of from.entry)) }
 {
-    let (first, from) = P::read(alloc, fuel, from)?;
-    let mut trees = Items::new(alloc);
-    trees.push(first)?;
-    more_of::<Next<P>>(alloc, fuel, trees, from)
+    if !from.goes_on() {
+        return Ok((Items::new(alloc), from.after()));
+    }
+    let start = from.after().after().behind();
+    let (list, from) = Listed::<P>::read(alloc, fuel, start)?;
+    Ok((list, from.behind()))
+}
+
+/// Such a list, or nothing.
+pub fn list_or_none<'a, P: Production>(
+    alloc: Global,
+    fuel: usize,
+    from: Left<'a>,
+) -> Result<(Items<P::Tree>, Left<'a>), NoMemory>
+    ensures { IfOk result (λ x. (x.0, rest_of x.1) ≡ list_or_none (P.at fuel) (rest_of from.entry)) }
+{
+    if !from.goes_on() {
+        return Ok((Items::new(alloc), from.after()));
+    }
+    Listed::<P>::read(alloc, fuel, from.after())
 }
 
 /// The production where the choices have it.
