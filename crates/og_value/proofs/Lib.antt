@@ -17,3 +17,4 @@ pub mod Placed
 pub mod Back
 pub mod Fitting
 pub mod Again
+pub mod Computing

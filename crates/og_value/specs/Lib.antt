@@ -6,3 +6,4 @@ pub mod Scans
 pub mod Answers
 pub mod Named
 pub mod Laws
+pub mod Examples

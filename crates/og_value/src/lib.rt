@@ -4,6 +4,7 @@
 ghost use Rattle.std.specs.Prelude.{◌≡◌};
 ghost use Rattle.og_value.specs.declared.ValueError.TheVariants.{NoMemory as OutOfMemory};
 
+pub mod examples;
 mod forms;
 pub mod laws;
 mod membership;

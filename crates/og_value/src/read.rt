@@ -1,6 +1,7 @@
 //! The value that the text at a place reads as.
-ghost use Rattle.std.specs.Prelude.{◌≡◌, ◌≤◌, ◌+◌, ℕ, length, IfOk, IsErrOf};
+ghost use Rattle.std.specs.Prelude.{◌≡◌, ◌≤◌, ◌+◌, ℕ, length, IfOk, IsTrue, IsErrOf};
 ghost use Rattle.og_types.specs.declared.Value.{Value};
+ghost use Rattle.og_types.specs.Values.{is_in};
 ghost use Rattle.og_value.specs.declared.ValueError.TheVariants.{Bad};
 ghost use Rattle.og_value.specs.Reads.{IsReadAt};
 ghost use Rattle.og_value.specs.Scans.{found_in};
@@ -36,9 +37,12 @@ pub fn read_value(
     // The longest text of a value there reads as this value, and ends there.
     ensures found { IfOk result (λ read. IsReadAt types.now names.now id text.now at read.value read.next) }
     ensures within { IfOk result (λ read. read.next ≤ length text.now) }
+    ensures in_type { IfOk result (λ read. IsTrue (is_in types.now id read.value)) }
     // It reads as none, or there is none.
     ensures bad { IsErrOf result ValueError.Bad → (value : Value) (next : ℕ) → IsReadAt types.now names.now id text.now at value next → ⊥ }
 {
+    // With the number of types it is said that they are a table.
+    let _ = types.len();
     let (_, bytes) = text.split_at(at);
     match found_in(alloc, types.as_slice(), names, id, bytes) {
         Ok((value, len)) => Ok(ReadValue {
