@@ -30,6 +30,6 @@ pub use system::{
 };
 pub use transition::{
     ActionTree, AnswerTree, ArgTree, AssignTree, AssignedTree, BranchTree, CallTree, ConstTree,
-    DecisionTree, ElseTree, OutTree, QuestionTree, StepTree, TerminatorKind,
-    TerminatorTree, TransitionTree,
+    DecisionTree, ElseTree, OutTree, QuestionTree, StepTree, TerminatorKind, TerminatorTree,
+    TransitionTree,
 };

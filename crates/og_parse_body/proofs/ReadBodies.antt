@@ -166,7 +166,7 @@ module _ (n : ℕ) where
       reads_part 63 (Part 63) refl
       (rule (reads_as (λ x. x.1.0) AreArgs (λ x ts us b. (b.0, (x.0, b.1), (b.2.0, b.2.1, (x.1.1, b.2.2))))
       (reads_then (reads_mark mark.LeftParenthesis) (λ p.
-        (reads_then (reads_or_none (argument_at n) 64 (reads_list mark.Comma 64 65 refl refl arguments arguments (Part 64) refl)) (λ xs. reads_mark mark.RightParenthesis)))))) [] refl
+      (reads_then (reads_or_none (argument_at n) 64 (reads_list mark.Comma 64 65 refl refl arguments arguments (Part 64) refl)) (λ xs. reads_mark mark.RightParenthesis)))))) [] refl
 
   calls : Reads SDL n (Part 62 ∷ []) (called_at n) IsCalled
   unfolding called_at

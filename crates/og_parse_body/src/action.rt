@@ -200,10 +200,7 @@ fn upto_of<'a>(
 
 /// `constant = [ "-" ] number | name | TRUE | FALSE`
 #[tactic(auto, unfolding(crate::specs::Reading::constant_at))]
-fn constant_of<'a>(
-    alloc: Global,
-    from: Left<'a>,
-) -> Result<(ConstTree, Left<'a>), NoMemory>
+fn constant_of<'a>(alloc: Global, from: Left<'a>) -> Result<(ConstTree, Left<'a>), NoMemory>
     ensures { IfOk result (λ x. (x.0, rest_of x.1) ≡ constant_at (rest_of from.entry)) }
 {
     let start = from.after();
@@ -285,10 +282,7 @@ fn kind_of<'a>(
 
 /// `target = "-" [ "*" ] | name [ VIA name ]`
 #[tactic(auto, unfolding(crate::specs::Reading::target_at))]
-fn target_of<'a>(
-    alloc: Global,
-    from: Left<'a>,
-) -> Result<(TerminatorKind, Left<'a>), NoMemory>
+fn target_of<'a>(alloc: Global, from: Left<'a>) -> Result<(TerminatorKind, Left<'a>), NoMemory>
     ensures { IfOk result (λ x. (x.0, rest_of x.1) ≡ target_at (rest_of from.entry)) }
 {
     let start = from.after();
@@ -324,11 +318,7 @@ impl Production for ViaReader {
     ghost at = { λ n. via_at };
 
     #[tactic(auto, unfolding(crate::specs::Reading::via_at))]
-    fn read<'a>(
-        alloc: Global,
-        fuel: usize,
-        from: Left<'a>,
-    ) -> Result<(Name, Left<'a>), NoMemory> {
+    fn read<'a>(alloc: Global, fuel: usize, from: Left<'a>) -> Result<(Name, Left<'a>), NoMemory> {
         NameReader::read(alloc, fuel, from.after().behind())
     }
 }

@@ -4,9 +4,7 @@ ghost use Rattle.og_reading.specs.Reading.{rest_of};
 ghost use Rattle.og_parse_body.specs.Reading.{initial_at, declared_at, dcl_at, timer_at, and_out_at, passing_at, formal_at, fpar_at, returns_at};
 
 use crate::ground::{NameReader, end_of, hname_of};
-use og_ast::{
-    DclTree, ExprTree, FormalTree, FparTree, ItemTree, Passing, ReturnsTree, TimerTree,
-};
+use og_ast::{DclTree, ExprTree, FormalTree, FparTree, ItemTree, Passing, ReturnsTree, TimerTree};
 use og_names::NoMemory;
 use og_parse_expr::expr_of;
 use og_reading::{Left, Listed, Production, maybe};

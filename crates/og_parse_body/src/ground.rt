@@ -17,21 +17,14 @@ impl Production for NameReader {
 
     ghost at = { λ n. name_at };
 
-    fn read<'a>(
-        alloc: Global,
-        _fuel: usize,
-        from: Left<'a>,
-    ) -> Result<(Name, Left<'a>), NoMemory> {
+    fn read<'a>(alloc: Global, _fuel: usize, from: Left<'a>) -> Result<(Name, Left<'a>), NoMemory> {
         Ok((from.name(alloc)?, from.behind()))
     }
 }
 
 /// `hname = name { "-" name }`
 #[tactic(auto, unfolding(crate::specs::Reading::hname_at))]
-pub fn hname_of<'a>(
-    alloc: Global,
-    from: Left<'a>,
-) -> Result<(HyphenedName, Left<'a>), NoMemory>
+pub fn hname_of<'a>(alloc: Global, from: Left<'a>) -> Result<(HyphenedName, Left<'a>), NoMemory>
     ensures { IfOk result (λ x. (x.0, rest_of x.1) ≡ hname_at (rest_of from.entry)) }
 {
     let (parts, from) = Listed::<NameReader>::read(alloc, 0, from)?;
@@ -93,11 +86,7 @@ impl Production for OwnNameReader {
     ghost at = { λ n. own_name_at };
 
     #[tactic(auto, unfolding(crate::specs::Reading::own_name_at))]
-    fn read<'a>(
-        alloc: Global,
-        fuel: usize,
-        from: Left<'a>,
-    ) -> Result<(Name, Left<'a>), NoMemory> {
+    fn read<'a>(alloc: Global, fuel: usize, from: Left<'a>) -> Result<(Name, Left<'a>), NoMemory> {
         NameReader::read(alloc, fuel, from.after())
     }
 }

@@ -63,11 +63,7 @@ pub fn transition_of<'a>(
 /// Steps, and the terminator behind them.
 #[cycle(transition)]
 #[tactic(auto, using(og_reading::proofs::Turns::loop_turns))]
-fn steps_of<'a>(
-    alloc: Global,
-    fuel: usize,
-    from: Left<'a>,
-) -> Result<(SoFar, Left<'a>), NoMemory>
+fn steps_of<'a>(alloc: Global, fuel: usize, from: Left<'a>) -> Result<(SoFar, Left<'a>), NoMemory>
     ensures { IfOk result (λ x. (x.0, rest_of x.1) ≡ onto (onto_step fuel (transition_at fuel)) ([], None) (rest_of from.entry)) }
 {
     let mut so_far = (Items::new(alloc), None);
@@ -101,11 +97,7 @@ fn onto_step<'a>(
 /// `step = label unlabelled | unlabelled`
 #[cycle(transition)]
 #[tactic(auto, unfolding(crate::specs::Reading::step_at))]
-fn step_of<'a>(
-    alloc: Global,
-    fuel: usize,
-    from: Left<'a>,
-) -> Result<(StepText, Left<'a>), NoMemory>
+fn step_of<'a>(alloc: Global, fuel: usize, from: Left<'a>) -> Result<(StepText, Left<'a>), NoMemory>
     ensures { IfOk result (λ x. (x.0, rest_of x.1) ≡ step_at fuel (transition_at fuel) (rest_of from.entry)) }
 {
     let start = from.after();

@@ -100,7 +100,7 @@ either_so false b e = inr e
 
 field_kind : (k : ℕ) → is_field_kind k ≡ true → (k ≡ 0) ⊎ ((24 ≤ k) × (k < 128))
 field_kind k e = elim (either_so (k == 0) (nat_le 24 k && nat_lt k 128) e) [
-  inl z ↦ inl (eqb-true k 0 z)
+  | inl z ↦ inl (eqb-true k 0 z)
   | inr z ↦ inr (leb-true 24 k (and_first (nat_le 24 k) (nat_lt k 128) z), ltb-true k 128 (and_second (nat_le 24 k) (nat_lt k 128) z))
 ]
 
@@ -160,7 +160,6 @@ module _ (table : List Symbol) (has : HasExpressions table) (n : ℕ) where
       (rule (reads_as (operation op.Subtract) IsSumOperator (λ place ts us s. minus s) (reads_mark mark.Minus)) ∷ [])
       (has.rules 6 refl)
 
-
   reads_relation : Reads table n (Part 10 ∷ []) relation_sign_at IsRelated
   unfolding relation_sign_at
   reads_relation =
@@ -184,8 +183,8 @@ module _ (table : List Symbol) (has : HasExpressions table) (n : ℕ) where
       reads_part 13 (Part 13) refl
       (rule (reads_as (λ x. x.1) IsAndOperator (λ x ts us b. b.2 ts b.1)
       (reads_then (reads_word word.And) (λ place.
-        (reads_option {Is = λ sign us rest. (start : List Spanned) → Reserved word.And place start us → IsAndOperator sign start rest} (operation op.And place) (λ ts start s. and_plain s)
-        (reads_part 14 (Part 14) refl (rule (reads_as (λ p. operation op.AndThen place) _ (λ p ts us s start r. and_then r (p, s)) (reads_word word.Then))) [] (has.rules 13 refl)))))))
+      (reads_option {Is = λ sign us rest. (start : List Spanned) → Reserved word.And place start us → IsAndOperator sign start rest} (operation op.And place) (λ ts start s. and_plain s)
+      (reads_part 14 (Part 14) refl (rule (reads_as (λ p. operation op.AndThen place) _ (λ p ts us s start r. and_then r (p, s)) (reads_word word.Then))) [] (has.rules 13 refl)))))))
       [] (has.rules 12 refl)
 
   reads_or_operator : Reads table n (Part 17 ∷ []) or_operator_at IsOrOperator
@@ -194,8 +193,8 @@ module _ (table : List Symbol) (has : HasExpressions table) (n : ℕ) where
       reads_part 17 (Part 17) refl
       (rule (reads_as (λ x. x.1) IsOrOperator (λ x ts us b. b.2 ts b.1)
       (reads_then (reads_word word.Or) (λ place.
-        (reads_option {Is = λ sign us rest. (start : List Spanned) → Reserved word.Or place start us → IsOrOperator sign start rest} (operation op.Or place) (λ ts start s. or_plain s)
-        (reads_part 18 (Part 18) refl (rule (reads_as (λ p. operation op.OrElse place) _ (λ p ts us s start r. or_else r (p, s)) (reads_word word.Else))) [] (has.rules 17 refl)))))))
+      (reads_option {Is = λ sign us rest. (start : List Spanned) → Reserved word.Or place start us → IsOrOperator sign start rest} (operation op.Or place) (λ ts start s. or_plain s)
+      (reads_part 18 (Part 18) refl (rule (reads_as (λ p. operation op.OrElse place) _ (λ p ts us s start r. or_else r (p, s)) (reads_word word.Else))) [] (has.rules 17 refl)))))))
       (rule (reads_as (operation op.Xor) IsOrOperator (λ place ts us s. xor s) (reads_word word.Xor)) ∷ [])
       (has.rules 16 refl)
 
@@ -219,8 +218,8 @@ module _ (table : List Symbol) (has : HasExpressions table) (n : ℕ) where
       → (left : ExprTree) → Reads table n (Many p ∷ []) (onto (step operator right) left) (Onto This This left)
   level_onto {This = This} {operator = operator} {right = right} p rules op right_reads more left =
       reads_all (λ start.
-        (reads_onto (λ x ts. This x start ts)
-        (λ x. reads_as (λ y. y) (λ y ts us. This x start ts → This y start us) (λ y ts us all. all start) (level_step {Mid = This} {This = This} p rules op right_reads more x)) left))
+      (reads_onto (λ x ts. This x start ts)
+      (λ x. reads_as (λ y. y) (λ y ts us. This x start ts → This y start us) (λ y ts us all. all start) (level_step {Mid = This} {This = This} p rules op right_reads more x)) left))
 
   level_led : {Lower Mid This : ExprTree → Text} {operand : Take ExprTree} {operators : ExprTree → Take ExprTree} {o r : Symbol} (p : ℕ) → rules_of p table ≡ (o ∷ r ∷ []) ∷ []
       → Reads table n (o ∷ []) operand Lower → ((x : ExprTree) → Reads table n (r ∷ []) (operators x) (Onto Mid This x)) → ((e : ExprTree) (ts us : List Spanned) → Lower e ts us → Mid e ts us)

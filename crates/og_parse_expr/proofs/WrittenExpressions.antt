@@ -51,7 +51,6 @@ use Rattle.og_parse_expr.specs.Grammar.{BeginsNegative, operation, IsProductOper
 use Rattle.og_parse_expr.specs.Grammar.{IsField, IsExpr, choice_value, no_choice_value, IsOr, or_alone, or_more, IsAnd, and_alone, and_more, IsRel, rel_alone, rel_more, IsSum, sum_alone, sum_more, IsProd, prod_alone, prod_more, IsUnary, negative, denied, number, true_, false_, var, bracketed, braces, IsVar, selected, IsSelectors, no_selector, more_selectors, IsSelector, dot, exclamation, index, IsInside, no_items, some_items, some_components, IsItem, item, AreMoreItems, no_more_items, more_items, IsComponent, component, AreMoreComponents, no_more_components, more_components}
 use Rattle.og_parse_expr.proofs.Rules.{HasExpressions}
 
-
 abbrev related : RelationOperator → Place → Related
 related r place = record { relation = r; place = place }
 
@@ -131,8 +130,8 @@ module _ (table : List Symbol) (has : HasExpressions table) where
       by_rule 24 refl (Part 25) refl 0 refl (λ n. field_at)
       (writes_token 0 field_in (field.Name name) (token.Name name.word) name.place ts us s (ap (λ (b : Bool). cond b 0 255) name.spelling)
       (λ t cs is at.
-        (ap (λ (z : TheToken). field_as (left cs (t ∷ us)) z) is
-        ∙ ap field.Name (ap (λ (z : TheToken). named t.place (word_by z)) is ∙ ap (λ (z : Place). named z name.word) at ∙ sym (named_so name.place name.word name.spelling)))))
+      (ap (λ (z : TheToken). field_as (left cs (t ∷ us)) z) is
+      ∙ ap field.Name (ap (λ (z : TheToken). named t.place (word_by z)) is ∙ ap (λ (z : Place). named z name.word) at ∙ sym (named_so name.place name.word name.spelling)))))
       (λ n cs. refl)
   fields (field.Keyword place w) ts us s =
       by_rule 24 refl (Part 25) refl (suc (tag_of keywords.the_type w)) (keyword_rule w) (λ n. field_at)

@@ -494,11 +494,7 @@ fn listed_rest_of<'a>(
 /// `item = name listed_rest | first_operand tails`
 #[cycle(expression)]
 #[tactic(auto, unfolding(crate::specs::Reading::item_at))]
-fn item_of<'a>(
-    alloc: Global,
-    fuel: usize,
-    from: Left<'a>,
-) -> Result<(ExprTree, Left<'a>), NoMemory>
+fn item_of<'a>(alloc: Global, fuel: usize, from: Left<'a>) -> Result<(ExprTree, Left<'a>), NoMemory>
     ensures { IfOk result (λ x. (x.0, rest_of x.1) ≡ item_at (inside fuel) (rest_of from.entry)) }
 {
     let start = from.after();

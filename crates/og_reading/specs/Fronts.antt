@@ -12,7 +12,6 @@ use Rattle.og_ast.specs.declared.ground.Name.{Name}
 use Rattle.og_ast.specs.declared.ground.TextTree.{TextTree}
 
 infixr 40 ◌▸◌
-
 -- tokens, and those behind a text that they begin with
 abbrev pub Text : Type 1
 Text = List Spanned → List Spanned → Type 0

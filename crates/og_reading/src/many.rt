@@ -15,7 +15,11 @@ pub trait Production {
     ghost at: { ℕ → Rest → Self.Tree × Rest };
 
     /// Its tree.
-    fn read<'a>(alloc: Global, fuel: usize, from: Left<'a>) -> Result<(Self::Tree, Left<'a>), NoMemory>
+    fn read<'a>(
+        alloc: Global,
+        fuel: usize,
+        from: Left<'a>,
+    ) -> Result<(Self::Tree, Left<'a>), NoMemory>
         ensures { IfOk result (λ x. (x.0, rest_of x.1) ≡ at fuel (rest_of from.entry)) };
 }
 
@@ -52,7 +56,11 @@ impl<P: Production> Production for Next<P> {
 
     ghost at = { λ n. next (P.at n) };
 
-    fn read<'a>(alloc: Global, fuel: usize, from: Left<'a>) -> Result<(P::Tree, Left<'a>), NoMemory> {
+    fn read<'a>(
+        alloc: Global,
+        fuel: usize,
+        from: Left<'a>,
+    ) -> Result<(P::Tree, Left<'a>), NoMemory> {
         P::read(alloc, fuel, from.after().behind())
     }
 }

@@ -1,5 +1,6 @@
 //! The grammar of SDL/PR (Z.106) as a table of og_grammar.
 #![tactic(auto)]
+
 ghost use Rattle.std.specs.Prelude.{IsTrue};
 ghost use Rattle.og_grammar.specs.Predictive.{is_predictive};
 

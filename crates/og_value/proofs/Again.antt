@@ -75,7 +75,7 @@ module _ (types : List Sort) (names : Names) (id : TypeId) where
       let few : nesting told.form ≤ 64 = omega (arith, told.nested, depth_bound types table id known) in
       let passed = passed_is_longest (text ++ others) others (exact told.spelt 64 few others after) in
       let lengths : length passed.text ≡ length text =
-          omega (arith, ap length passed.front, length-append text others, length-append passed.text others) in
+      omega (arith, ap length passed.front, length-append text others, length-append passed.text others) in
       subst (IsLongest (text ++ others)) (same_front passed.text text others others (sym passed.front) lengths) passed.longest
 
   pub reads_back : is_table types ≡ true → IsTable names → (v : Value) → is_in types id v ≡ true → has_names types names id ≡ true
@@ -92,7 +92,7 @@ module _ (types : List Sort) (names : Names) (id : TypeId) where
           form = told.form;
           spelt = told.spelt;
           nested = omega (arith, told.nested, depth_bound types table id known);
-          means = told.means
+          means = told.means;
         };
-        ends = refl
+        ends = refl;
       }

@@ -31,7 +31,7 @@ pub record AreDigitsOf (n : ℕ) (ds : List ℕ) : Type 0 where
 one_digit : (n : ℕ) → n < 10 → AreDigitsOf n ((48 + n) ∷ [])
 one_digit n h = record {
   digits = record { some = digit_is n h; all = both_true _ _ (digit_is n h) refl };
-  number = omega arith
+  number = omega arith;
 }
 
 one_more : (n : ℕ) (ds : List ℕ) → 10 ≤ n → AreDigitsOf (n / 10) ds → AreDigitsOf n (ds ++ (48 + n % 10) ∷ [])
@@ -40,9 +40,9 @@ one_more n ds h are =
     record {
       digits = record {
         some = begins_front is_digit ds _ are.digits.some;
-        all = all_snoc is_digit ds (48 + n % 10) are.digits.all (digit_is (n % 10) last)
+        all = all_snoc is_digit ds (48 + n % 10) are.digits.all (digit_is (n % 10) last);
       };
-      number = number_snoc 0 ds (48 + n % 10) ∙ omega (arith, are.number)
+      number = number_snoc 0 ds (48 + n % 10) ∙ omega (arith, are.number);
     }
 
 pub decimal_digits : (n : ℕ) → n < 2 ^ 64 → AreDigitsOf n (decimal n)

@@ -24,13 +24,13 @@ first_byte bytes = get_or bytes 0 0
 folded_no_truth : (w : List ℕ) (b : Bool) → folded w ≡ w → truth_of w ≡ Some b → ⊥
 unfolding first_byte
 folded_no_truth w b folds e = elim (truth_word w b e) [
-    inl is ↦
+  | inl is ↦
       let same : first_byte (folded (codes "TRUE")) ≡ first_byte (codes "TRUE") = ap first_byte (ap folded (sym is) ∙ folds ∙ is) in
       omega (arith, same)
   | inr is ↦
       let same : first_byte (folded (codes "FALSE")) ≡ first_byte (codes "FALSE") = ap first_byte (ap folded (sym is) ∙ folds ∙ is) in
       omega (arith, same)
-  ]
+]
 
 no_truth : (w : List ℕ) → folded w ≡ w → truth_of w ≡ None
 no_truth w folds = go (truth_of w) refl
@@ -54,7 +54,7 @@ name_is names table id h = go (slice_get names id.0) refl
         let folds = table.folds id.0 w e in
         subst (IsNameText names id) (sym (ap text_or_none e)) (record {
           name = record { letter = both_first _ _ spelt; all = both_second _ _ spelt; no_truth = no_truth w folds };
-          place = ap (place_of names) folds ∙ table.own id.0 w e
+          place = ap (place_of names) folds ∙ table.own id.0 w e;
         })
 
 same_number : (n : ℕ) → nat_eq n n ≡ true

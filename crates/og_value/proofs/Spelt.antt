@@ -25,12 +25,12 @@ begins_more p q sub (b ∷ bs) h = sub b h
 -- TRUE or FALSE
 pub truth_word : (w : List ℕ) (b : Bool) → truth_of w ≡ Some b → (w ≡ codes "TRUE") ⊎ (w ≡ codes "FALSE")
 truth_word w b h = elim (cases_Bool (bytes_eq w (codes "TRUE"))) [
-    inl same ↦ inl ((bytes_eq-Decides w (codes "TRUE")).0 same)
+  | inl same ↦ inl ((bytes_eq-Decides w (codes "TRUE")).0 same)
   | inr differ ↦ elim (cases_Bool (bytes_eq w (codes "FALSE"))) [
-      inl same ↦ inr ((bytes_eq-Decides w (codes "FALSE")).0 same)
+    | inl same ↦ inr ((bytes_eq-Decides w (codes "FALSE")).0 same)
     | inr other ↦ absurd (none-some b (sym (λ i. cond (differ i) (Some true) (cond (other i) (Some false) None)) ∙ h))
-    ]
   ]
+]
 
 pub truth_letter : (w : List ℕ) (b : Bool) → truth_of w ≡ Some b → begins is_letter w ≡ true
 truth_letter w b h = elim (truth_word w b h) [ inl e ↦ ap (begins is_letter) e | inr e ↦ ap (begins is_letter) e ]
@@ -76,15 +76,15 @@ closes b = b == 44 || b == 125
 
 pub closing : (P : ℕ → Type 0) → P 44 → P 125 → (b : ℕ) → closes b ≡ true → P b
 closing P comma brace b h = elim (either_true _ _ h) [
-    inl e ↦ subst P (sym (eqb-true b 44 e)) comma
+  | inl e ↦ subst P (sym (eqb-true b 44 e)) comma
   | inr e ↦ subst P (sym (eqb-true b 125 e)) brace
-  ]
+]
 
 pub follows_close : (y r : List ℕ) → AreBlanks y → begins closes r ≡ true → Follows (y ++ r)
 follows_close y [] blanks h = absurd (false≢true h)
 follows_close y (b ∷ r) blanks h = record {
   word = blanks_end_word y (b ∷ r) blanks (closing (λ c. is_word c ≡ false) refl refl b h);
-  colon = ap (mark_here 58) (blanks_off y (b ∷ r) blanks) ∙ closing (λ c. mark_here 58 (past_blanks (c ∷ r)) ≡ None) refl refl b h
+  colon = ap (mark_here 58) (blanks_off y (b ∷ r) blanks) ∙ closing (λ c. mark_here 58 (past_blanks (c ∷ r)) ≡ None) refl refl b h;
 }
 
 pub closes_behind : (y r : List ℕ) → AreBlanks y → begins closes r ≡ true → begins closes (past_blanks (y ++ r)) ≡ true
