@@ -1,0 +1,14 @@
+pub mod Filling
+pub mod Overwriting
+pub mod Globals
+pub mod Counting
+pub mod Naming
+pub mod Steady
+pub mod Laid
+pub mod Widths
+pub mod TypeWidths
+pub mod Holding
+pub mod Shapes
+pub mod Writing
+pub mod Valued
+pub mod Extents

@@ -1,0 +1,3 @@
+pub mod Vectors
+pub mod Layouts
+pub mod Views
