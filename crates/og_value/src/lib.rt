@@ -16,7 +16,7 @@ mod write;
 
 pub use membership::fits;
 use og_names::NoMemory;
-pub use read::{ReadValue, read_value};
+pub use read::{ReadValue, read_value, value_end};
 pub use write::write_value;
 use std::alloc::{AllocError, AllocFailed};
 
