@@ -1,19 +1,19 @@
 -- What stands behind the laws on texts of values.
-use Rattle.std.proofs.Common.{◌≡◌, ◌↔◌, ℕ, ◌+◌, ◌<◌, ◌≤◌, Bool, true, false, cond, ◌==◌, List, [], ◌∷◌, ◌++◌, length, drop, slice_get, Option, Some, None, refl, sym, ap, ◌∙◌, subst, arith, length-append}
+use Rattle.std.proofs.Common.{◌≡◌, ℕ, ◌+◌, ◌<◌, ◌≤◌, true, false, cond, ◌==◌, List, [], ◌∷◌, ◌++◌, length, drop, slice_get, Option, Some, None, refl, sym, ap, ◌∙◌, subst, arith, length-append}
 use Rattle.std.proofs.lemmas.Bool.{false≢true}
-use Rattle.std.proofs.lemmas.Option.{none-some, slice_get_within}
+use Rattle.std.proofs.lemmas.Option.{slice_get_within}
 use Rattle.og_names.specs.Table.{IsTable}
 use Rattle.og_types.specs.declared.TypeId.{TypeId}
 use Rattle.og_types.specs.declared.Sort.{Sort}
 use Rattle.og_types.specs.declared.Value.{Value, out-Value}
 use Rattle.og_types.specs.Values.{in_sort, in_within, is_in}
-use Rattle.og_types.specs.Table.{depth, is_table}
+use Rattle.og_types.specs.Table.{is_table}
 use Rattle.og_types.proofs.Tables.{tables_are_downward}
 use Rattle.og_types.proofs.Added.{depth_bound}
 use Rattle.og_value.specs.Bytes.{is_blank, begins, behind}
 use Rattle.og_value.specs.Forms.{nesting, HasForm, IsLongest}
 use Rattle.og_value.specs.Reads.{Names, Reads, IsReadAt}
-use Rattle.og_value.specs.Scans.{mark_here, found_in, form_at}
+use Rattle.og_value.specs.Scans.{mark_here, found_in}
 use Rattle.og_value.specs.Shows.{shown}
 use Rattle.og_value.specs.Named.{has_names}
 use Rattle.og_value.specs.Laws.{GoOnWithNone}
@@ -22,7 +22,7 @@ use Rattle.og_value.proofs.Spelt.{Follows}
 use Rattle.og_value.proofs.Exact.{exact}
 use Rattle.og_value.proofs.Longest.{passed_is_longest, one_longest, same_front}
 use Rattle.og_value.proofs.Told.{one_value, read_is_found, found_is_read}
-use Rattle.og_value.proofs.Back.{Told, shown_told}
+use Rattle.og_value.proofs.Back.{shown_told}
 use Rattle.og_value.proofs.Fitting.{read_fits}
 
 -- ---- where nothing goes on
@@ -38,7 +38,7 @@ pub whole_is_longest : (text others : List ℕ) → HasForm text → GoOnWithNon
 whole_is_longest text others has none =
     let passed = passed_is_longest (text ++ others) others (exact has.spelt 64 has.nested others (follows others none)) in
     let lengths : length passed.text ≡ length text =
-        omega (arith, ap length passed.front, length-append text others, length-append passed.text others) in
+    omega (arith, ap length passed.front, length-append text others, length-append passed.text others) in
     subst (IsLongest (text ++ others)) (same_front passed.text text others others (sym passed.front) lengths) passed.longest
 
 module _ (types : List Sort) (names : Names) (id : TypeId) where
@@ -91,5 +91,5 @@ module _ (types : List Sort) (names : Names) (id : TypeId) where
         text = text;
         longest = subst (λ bytes. IsLongest bytes text) (sym (drop_front before (text ++ others))) longest;
         reads = record { form = told.form; spelt = told.spelt; nested = few; means = told.means };
-        ends = refl
+        ends = refl;
       }

@@ -1,5 +1,5 @@
 -- The text that a value shows has a form that means the value.
-use Rattle.std.proofs.Common.{◌≡◌, ℕ, zero, suc, ◌+◌, ◌<◌, ◌≤◌, max, Bool, true, false, cond, not, ◌&&◌, nat_eq, nat_le, nat_lt, ℤ, codes, List, [], ◌∷◌, ◌++◌, length, map, slice_get, Option, Some, None, option_map, refl, sym, ap, ◌∙◌, subst, arith, append_assoc}
+use Rattle.std.proofs.Common.{◌≡◌, ℕ, zero, suc, ◌+◌, ◌<◌, ◌≤◌, Bool, true, false, cond, not, ◌&&◌, nat_eq, nat_le, nat_lt, ℤ, codes, List, [], ◌∷◌, ◌++◌, length, map, slice_get, Option, Some, None, option_map, refl, sym, ap, ◌∙◌, subst, arith, append_assoc}
 use Rattle.std.specs.List.{list_all}
 use Rattle.std.proofs.lemmas.Bool.{false≢true, ltb-true}
 use Rattle.std.specs.Fmt.{signed_decimal}
@@ -17,15 +17,14 @@ use Rattle.og_types.specs.declared.Value as Values
 use Rattle.og_types.specs.declared.Value.TheOpen as Open
 use Rattle.og_types.specs.declared.Value.TheViews.{rolls-Int, rolls-Bool, rolls-Enumerated, rolls-Sequence, rolls-Choice, rolls-SeqOf}
 use Rattle.og_types.specs.Values.{is_between, in_parts, in_part, in_sort, in_within, is_in}
-use Rattle.og_types.specs.Table.{in_64_bits, is_empty, all_differ, same_name, is_sort_after, depth_of_parts, depth_of_sort, depth_within, depth, is_table, are_parts_below}
+use Rattle.og_types.specs.Table.{in_64_bits, is_empty, all_differ, same_name, is_sort_after, depth_of_parts, depth_of_sort, depth_within, depth, is_table}
 use Rattle.og_types.proofs.Tables.{sort_after}
-use Rattle.og_value.specs.Bytes.{is_letter, is_word, begins, truth_of}
-use Rattle.og_value.specs.Forms.{Form, Number, Truth, Name, Alternative, Items, Parts, Forms, no_item, item, Fields, no_part, part, IsName, Spells, is_truth, is_name, is_alternative, are_none, are_items, are_parts, ItemsGoOn, no_more_items, further_item, PartsGoOn, no_more_parts, further_part, nesting, nesting_of_items, nesting_of_parts}
-use Rattle.og_value.specs.Reads.{◌>>=◌, Names, Chosen, as_number, place_among, place_of_word, names_of, chosen, chosen_at, as_items, is_called, value_of, values_of, fields_of}
+use Rattle.og_value.specs.Forms.{Form, Number, Truth, Name, Alternative, Items, Parts, Forms, no_item, item, Fields, no_part, part, Spells, is_truth, is_name, is_alternative, are_none, are_items, are_parts, ItemsGoOn, no_more_items, further_item, PartsGoOn, no_more_parts, further_part, nesting, nesting_of_items, nesting_of_parts}
+use Rattle.og_value.specs.Reads.{◌>>=◌, Names, Chosen, as_number, place_among, names_of, chosen, chosen_at, as_items, is_called, value_of, values_of, fields_of}
 use Rattle.og_value.specs.Shows.{name_text, truth_text, enumerator_text, separated, braced, part_text, part_texts, alternative_text, text_of_sort, text_within, shown}
 use Rattle.og_value.specs.Named.{has_spelling, have_names, has_names_of_sort, has_names_within, has_names}
 use Rattle.og_value.proofs.Decimals.{number_text}
-use Rattle.og_value.proofs.Placed.{IsNameText, name_is, called, enumerator_among, part_among}
+use Rattle.og_value.proofs.Placed.{name_is, called, enumerator_among, part_among}
 
 -- ---- texts in braces
 
@@ -82,8 +81,8 @@ module _ (types : List Sort) (names : Names) where
           forms = item one.form others.forms;
           spelt = further_item (32 ∷ []) [] refl one.spelt refl others.spelt;
           means = ap (λ o. o >>= λ u. option_map (λ us. u ∷ us) (values_of types names (slice_get types id.0) others.forms)) one.means
-            ∙ ap (option_map (λ us. v ∷ us)) others.means;
-          nested = omega (arith, one.nested, others.nested)
+              ∙ ap (option_map (λ us. v ∷ us)) others.means;
+          nested = omega (arith, one.nested, others.nested);
         }
 
     -- one component
@@ -109,10 +108,10 @@ module _ (types : List Sort) (names : Names) where
         record {
           fields = part (name_text names p.name) one.form others.fields;
           spelt = subst (λ xs. PartsGoOn (part (name_text names p.name) one.form others.fields) (44 ∷ 32 ∷ xs))
-            (regrouped (name_text names p.name) (show p.sort v) (after_first (part_texts show names parts vs)))
-            (further_part (32 ∷ []) (name_text names p.name) (32 ∷ []) [] refl name.name refl tt one.spelt refl others.spelt);
+              (regrouped (name_text names p.name) (show p.sort v) (after_first (part_texts show names parts vs)))
+              (further_part (32 ∷ []) (name_text names p.name) (32 ∷ []) [] refl name.name refl tt one.spelt refl others.spelt);
           means = field_means p parts (name_text names p.name) one.form others.fields v vs (called names p.name _ name) one.means others.means;
-          nested = omega (arith, one.nested, others.nested)
+          nested = omega (arith, one.nested, others.nested);
         }
 
     -- ---- each sort
@@ -134,12 +133,12 @@ module _ (types : List Sort) (names : Names) where
         record {
           form = Parts fields;
           spelt = subst (Spells (Parts fields))
-            (ap (λ xs. 123 ∷ xs) (regrouped (name_text names p.name) (show p.sort v) (after_first (part_texts show names parts vs)))
+              (ap (λ xs. 123 ∷ xs) (regrouped (name_text names p.name) (show p.sort v) (after_first (part_texts show names parts vs)))
               ∙ in_braces (part_text show names p v) (part_texts show names parts vs))
-            (are_parts [] (name_text names p.name) (32 ∷ []) [] refl name.name refl tt one.spelt refl others.spelt);
+              (are_parts [] (name_text names p.name) (32 ∷ []) [] refl name.name refl tt one.spelt refl others.spelt);
           means = ap (option_map Values.Sequence)
-            (field_means p parts (name_text names p.name) one.form others.fields v vs (called names p.name _ name) one.means others.means);
-          nested = omega (arith, one.nested, others.nested)
+              (field_means p parts (name_text names p.name) one.form others.fields v vs (called names p.name _ name) one.means others.means);
+          nested = omega (arith, one.nested, others.nested);
         }
 
     -- as many items as the size allows
@@ -160,9 +159,9 @@ module _ (types : List Sort) (names : Names) where
           form = Items forms;
           spelt = subst (Spells (Items forms)) (in_braces (show id v) (map (show id) vs)) (are_items [] [] refl one.spelt refl others.spelt);
           means = sized lo hi id forms (v ∷ vs) size
-            (ap (λ o. o >>= λ u. option_map (λ us. u ∷ us) (values_of types names (slice_get types id.0) others.forms)) one.means
+              (ap (λ o. o >>= λ u. option_map (λ us. u ∷ us) (values_of types names (slice_get types id.0) others.forms)) one.means
               ∙ ap (option_map (λ us. v ∷ us)) others.means);
-          nested = omega (arith, one.nested, others.nested)
+          nested = omega (arith, one.nested, others.nested);
         }
 
     -- what a part at a place has
@@ -204,7 +203,7 @@ module _ (types : List Sort) (names : Names) where
           form = Alternative (name_text names p.name) one.form;
           spelt = is_alternative (name_text names p.name) [] (32 ∷ []) name.name refl refl one.spelt;
           means = alternative_means parts k p (name_text names p.name) one.form v name.place (part_among parts k p d e) e one.means;
-          nested = omega (arith, one.nested, has.2)
+          nested = omega (arith, one.nested, has.2);
         }
 
     spelling_at : (ids : List NameId) (k : ℕ) (id : NameId) → list_all (has_spelling names) ids ≡ true → slice_get ids k ≡ Some id → has_spelling names id ≡ true
@@ -222,8 +221,8 @@ module _ (types : List Sort) (names : Names) where
           form = Name (name_text names id);
           spelt = is_name (name_text names id) name.name;
           means = ap (λ o. option_map Values.Enumerated (o >>= place_among ids)) name.place
-            ∙ ap (option_map Values.Enumerated) (enumerator_among ids k id d e);
-          nested = omega arith
+              ∙ ap (option_map Values.Enumerated) (enumerator_among ids k id d e);
+          nested = omega arith;
         }
 
     truth_told : (b : Bool) → Told (Some Sorts.Bool) (truth_text b) (Values.Bool b) 1
@@ -238,7 +237,7 @@ module _ (types : List Sort) (names : Names) where
           form = Number text.negative text.digits;
           spelt = text.spelt;
           means = ap (as_number (Some (Sorts.Int lo hi))) text.is ∙ ap (λ b. cond b (Some (Values.Int z)) None) between;
-          nested = omega arith
+          nested = omega arith;
         }
 
     meaning : (sort : Option Sort) (text : List ℕ) (v w : Value) (most : ℕ) → w ≡ v → Told sort text v most → Told sort text w most
@@ -265,7 +264,7 @@ module _ (types : List Sort) (names : Names) where
         let more = both_second (nat_le lo (length vs)) _ h in
         meaning _ _ _ _ _ (rolls-SeqOf vs)
         (seq_of_told lo hi id vs (both_true (nat_le lo (length vs)) (nat_le (length vs) hi) (both_first (nat_le lo (length vs)) _ h) (both_first (nat_le (length vs) hi) _ more))
-          (both_second (nat_le (length vs) hi) _ more) m)
+        (both_second (nat_le (length vs) hi) _ more) m)
     sort_told n s shape a h m = absurd (false≢true h)
 
   -- ---- a whole value
@@ -273,7 +272,7 @@ module _ (types : List Sort) (names : Names) where
   module _ (table : is_table types ≡ true) (numbered : IsTable names) where
     by_sort : (d : ℕ) (id : TypeId) (v : Value)
         → ((x : TypeId) (u : Value) → in_within d types x u ≡ true → has_names_within d types names x ≡ true
-          → Told (slice_get types x.0) (text_within d types names x u) u (depth_within d types x))
+        → Told (slice_get types x.0) (text_within d types names x u) u (depth_within d types x))
         → (o : Option Sort) → slice_get types id.0 ≡ o
         → in_sort (in_within d types) o (out-Value v) ≡ true → has_names_of_sort (has_names_within d types names) names o ≡ true
         → Told o (text_of_sort (text_within d types names) names o (out-Value v)) v (depth_of_sort (depth_within d types) o)
@@ -282,7 +281,7 @@ module _ (types : List Sort) (names : Names) where
         subst (λ u. Told (Some s) (text_of_sort (text_within d types names) names (Some s) (out-Value v)) u (depth_of_sort (depth_within d types) (Some s)))
         (roll-out-Value v)
         (sort_told numbered (in_within d types) (has_names_within d types names) (text_within d types names) (depth_within d types) inner
-          id.0 s (out-Value v) (sort_after types table id.0 s e) h m)
+        id.0 s (out-Value v) (sort_after types table id.0 s e) h m)
 
     told_within : (d : ℕ) (id : TypeId) (v : Value) → in_within d types id v ≡ true → has_names_within d types names id ≡ true
         → Told (slice_get types id.0) (text_within d types names id v) v (depth_within d types id)

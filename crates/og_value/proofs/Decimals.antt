@@ -1,11 +1,11 @@
 -- Decimal numbers as texts.
-use Rattle.std.proofs.Common.{◌≡◌, ℕ, zero, suc, ◌+◌, ◌-◌, ◌*◌, ◌/◌, ◌%◌, ◌^◌, ◌<◌, ◌≤◌, Bool, true, false, ◌&&◌, ℤ, pos, negsuc, neg_ℤ, int_le, List, [], ◌∷◌, ◌++◌, Some, refl, sym, ap, ◌∙◌, arith}
+use Rattle.std.proofs.Common.{◌≡◌, ℕ, suc, ◌+◌, ◌-◌, ◌*◌, ◌/◌, ◌%◌, ◌^◌, ◌<◌, ◌≤◌, Bool, true, false, ℤ, pos, negsuc, neg_ℤ, int_le, List, [], ◌∷◌, ◌++◌, refl, ap, ◌∙◌, arith}
 use Rattle.std.specs.List.{list_all}
 use Rattle.std.specs.Fmt.{decimal, signed_decimal}
 use Rattle.std.proofs.lemmas.Bool.{false≢true, leb-true, le-leb}
 use Rattle.std.proofs.lemmas.Fmt.{decimal_by_steps}
 use Rattle.og_names.proofs.Truths.{both_true, both_first, both_second}
-use Rattle.og_value.specs.Bytes.{is_digit, begins, number_from, number_of}
+use Rattle.og_value.specs.Bytes.{is_digit, number_from, number_of}
 use Rattle.og_types.specs.Values.{is_between}
 use Rattle.og_types.specs.Table.{in_64_bits}
 use Rattle.og_value.specs.Forms.{Number, IsDigits, Spells, is_number, is_negative}
@@ -31,7 +31,7 @@ pub record AreDigitsOf (n : ℕ) (ds : List ℕ) : Type 0 where
 one_digit : (n : ℕ) → n < 10 → AreDigitsOf n ((48 + n) ∷ [])
 one_digit n h = record {
   digits = record { some = digit_is n h; all = both_true _ _ (digit_is n h) refl };
-  number = omega arith
+  number = omega arith;
 }
 
 one_more : (n : ℕ) (ds : List ℕ) → 10 ≤ n → AreDigitsOf (n / 10) ds → AreDigitsOf n (ds ++ (48 + n % 10) ∷ [])
@@ -40,9 +40,9 @@ one_more n ds h are =
     record {
       digits = record {
         some = begins_front is_digit ds _ are.digits.some;
-        all = all_snoc is_digit ds (48 + n % 10) are.digits.all (digit_is (n % 10) last)
+        all = all_snoc is_digit ds (48 + n % 10) are.digits.all (digit_is (n % 10) last);
       };
-      number = number_snoc 0 ds (48 + n % 10) ∙ omega (arith, are.number)
+      number = number_snoc 0 ds (48 + n % 10) ∙ omega (arith, are.number);
     }
 
 pub decimal_digits : (n : ℕ) → n < 2 ^ 64 → AreDigitsOf n (decimal n)

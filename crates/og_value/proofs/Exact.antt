@@ -1,13 +1,13 @@
 -- A text of a value is read to its end, where nothing behind it goes on with it.
-use Rattle.std.proofs.Common.{◌≡◌, ℕ, zero, suc, ◌+◌, ◌-◌, ◌<◌, ◌≤◌, max, Bool, true, false, cond, not, ◌||◌, ◌==◌, List, [], ◌∷◌, ◌++◌, length, Option, Some, None, inl, inr, refl, sym, ap, ◌∙◌, subst, arith, length-append, append_assoc}
+use Rattle.std.proofs.Common.{◌≡◌, ℕ, zero, suc, ◌≤◌, max, Bool, true, false, cond, not, ◌||◌, ◌==◌, List, [], ◌∷◌, ◌++◌, length, Option, Some, None, inl, inr, refl, sym, ap, ◌∙◌, subst, arith, length-append, append_assoc}
 use Rattle.std.specs.Option.{is_none}
 use Rattle.std.proofs.lemmas.Bool.{false≢true, eqb-true}
 use Rattle.og_names.proofs.Truths.{both_first, either_first, either_true, not_true}
-use Rattle.og_value.specs.Bytes.{is_blank, is_letter, is_digit, is_word, begins, truth_of}
+use Rattle.og_value.specs.Bytes.{is_letter, is_digit, is_word, begins, truth_of}
 use Rattle.og_value.specs.Forms.{Form, Forms, Fields, IsDigits, IsName, AreBlanks, AreApart, Spells, is_number, is_negative, is_truth, is_name, is_alternative, are_none, are_items, are_parts, ItemsGoOn, no_more_items, further_item, PartsGoOn, no_more_parts, further_part, nesting, nesting_of_items, nesting_of_parts}
-use Rattle.og_value.specs.Scans.{Found, Reader, and_then, found_or, rest_or, unless_truth, past_blanks, mark_here, mark_at, digits_at, minus_digits_at, word_at, name_at, comma_by, past_by, past_all, part_by, closed_by, braces_by, open_by, colon_by, past_choice, past_word, form_by, form_at, inner_form}
+use Rattle.og_value.specs.Scans.{Reader, and_then, found_or, rest_or, unless_truth, past_blanks, mark_here, mark_at, digits_at, minus_digits_at, word_at, name_at, comma_by, past_by, past_all, part_by, closed_by, braces_by, open_by, colon_by, past_choice, past_word, form_by, form_at, inner_form}
 use Rattle.og_value.proofs.Steps.{form_is}
-use Rattle.og_value.proofs.Fronts.{EndsWord, digits_exactly, ends_digits, word_exactly, name_exactly, no_digits, no_word, no_mark, no_minus, blanks_off, blanks_end_word, blanks_words, begins_front}
+use Rattle.og_value.proofs.Fronts.{EndsWord, digits_exactly, ends_digits, word_exactly, name_exactly, no_digits, no_word, no_minus, blanks_off, blanks_end_word, blanks_words, begins_front}
 use Rattle.og_value.proofs.Spelt.{starts, closes, closing, spelt_starts, past_to, spelt_no_mark, truth_letter, truth_all, Follows, follows_close, closes_behind, items_close, parts_close}
 
 -- ---- one level
@@ -41,9 +41,9 @@ stops b = closes b || b == 58
 
 pub stopping : (P : ℕ → Type 0) → P 44 → P 125 → P 58 → (b : ℕ) → stops b ≡ true → P b
 stopping P comma brace colon b h = elim (either_true (closes b) (b == 58) h) [
-    inl close ↦ closing P comma brace b close
+  | inl close ↦ closing P comma brace b close
   | inr e ↦ subst P (sym (eqb-true b 58 e)) colon
-  ]
+]
 
 none_at_comma : (inner : Option (Reader (Unit {0}))) (bs : List ℕ) → form_by inner (44 ∷ bs) ≡ None
 unfolding form_by digits_at word_at
@@ -100,7 +100,7 @@ pub by_alternative : (one : Reader (Unit {0})) (w x y : List ℕ) {f : Form} {t 
 by_alternative one w x y {t = t} r rest name bx by s e =
     ap (form_by (Some one)) (group4 w x 58 y t r)
     ∙ by_word (Some one) _ w (x ++ (58 ∷ (y ++ (t ++ r)))) (begins_front is_letter w _ name.letter)
-      (word_exactly w (x ++ (58 ∷ (y ++ (t ++ r)))) name.letter name.all (ends_before x 58 (y ++ (t ++ r)) bx refl))
+    (word_exactly w (x ++ (58 ∷ (y ++ (t ++ r)))) name.letter name.all (ends_before x 58 (y ++ (t ++ r)) bx refl))
     ∙ ap (λ b. Some (tt, past_word (Some one) b (x ++ (58 ∷ (y ++ (t ++ r)))))) name.no_truth
     ∙ ap (λ found. Some (tt, rest_or found (x ++ (58 ∷ (y ++ (t ++ r)))))) (colon_found one x y r rest bx by s e)
 
@@ -323,14 +323,14 @@ mutual
       let inner = deeper d (max (nesting f) (nesting_of_items fs)) h in
       at_depth d inner.less _ inner.is
       ∙ by_items inner.less x y more r bx s by (items_close others r)
-        (exact s inner.less (omega (arith, inner.enough)) (y ++ (more ++ r)) (follows_close y (more ++ r) by (items_close others r)))
-        (closed_is (form_at inner.less) _ r (items_exact others inner.less (omega (arith, inner.enough)) y r by (length (y ++ (more ++ r))) (front_of y more r)))
+      (exact s inner.less (omega (arith, inner.enough)) (y ++ (more ++ r)) (follows_close y (more ++ r) by (items_close others r)))
+      (closed_is (form_at inner.less) _ r (items_exact others inner.less (omega (arith, inner.enough)) y r by (length (y ++ (more ++ r))) (front_of y more r)))
   exact (are_parts x w g y {f = f} {fs = fs} {more = more} bx name bg apart s by others) d h r follows =
       let inner = deeper d (max (nesting f) (nesting_of_parts fs)) h in
       at_depth d inner.less _ inner.is
       ∙ by_parts (form_at inner.less) x w g y more r bx name bg apart s
-        (exact s inner.less (omega (arith, inner.enough)) (y ++ (more ++ r)) (follows_close y (more ++ r) by (parts_close others r)))
-        (closed_is (part_by (form_at inner.less)) _ r (parts_exact others inner.less (omega (arith, inner.enough)) y r by (length (y ++ (more ++ r))) (front_of y more r)))
+      (exact s inner.less (omega (arith, inner.enough)) (y ++ (more ++ r)) (follows_close y (more ++ r) by (parts_close others r)))
+      (closed_is (part_by (form_at inner.less)) _ r (parts_exact others inner.less (omega (arith, inner.enough)) y r by (length (y ++ (more ++ r))) (front_of y more r)))
 
   pub items_exact : {fs : Forms} {more : List ℕ} → ItemsGoOn fs more → (d : ℕ) → nesting_of_items fs ≤ d → (y r : List ℕ) → AreBlanks y → (n : ℕ) → length more ≤ n
       → mark_at 125 (past_all (comma_by (form_at d)) n (y ++ (more ++ r))) ≡ Some (tt, r)
@@ -340,8 +340,8 @@ mutual
       ap (λ k. mark_at 125 (past_all (comma_by (form_at d)) k (y ++ ((44 ∷ (x ++ (t ++ (y' ++ more)))) ++ r)))) m.is
       ∙ ap (λ bs. mark_at 125 (past_all (comma_by (form_at d)) (suc m.less) (y ++ (44 ∷ bs)))) (group_items x t y' more r)
       ∙ closed_more (form_at d) m.less y (x ++ (t ++ (y' ++ (more ++ r)))) (y' ++ (more ++ r)) r by
-        (ap (form_at d) (past_to s x (y' ++ (more ++ r)) bx) ∙ exact s d (omega (arith, h)) (y' ++ (more ++ r)) (follows_close y' (more ++ r) by' (items_close others r)))
-        (items_exact others d (omega (arith, h)) y' r by' m.less (omega (arith, m.enough, tail_le x t y' more)))
+      (ap (form_at d) (past_to s x (y' ++ (more ++ r)) bx) ∙ exact s d (omega (arith, h)) (y' ++ (more ++ r)) (follows_close y' (more ++ r) by' (items_close others r)))
+      (items_exact others d (omega (arith, h)) y' r by' m.less (omega (arith, m.enough, tail_le x t y' more)))
 
   pub parts_exact : {fs : Fields} {more : List ℕ} → PartsGoOn fs more → (d : ℕ) → nesting_of_parts fs ≤ d → (y r : List ℕ) → AreBlanks y → (n : ℕ) → length more ≤ n
       → mark_at 125 (past_all (comma_by (part_by (form_at d))) n (y ++ (more ++ r))) ≡ Some (tt, r)
@@ -353,6 +353,6 @@ mutual
       ap (λ k. mark_at 125 (past_all (comma_by one) k (y ++ ((44 ∷ (x ++ (w ++ (g ++ (t ++ (y' ++ more)))))) ++ r)))) m.is
       ∙ ap (λ bs. mark_at 125 (past_all (comma_by one) (suc m.less) (y ++ (44 ∷ bs)))) (group_parts x w g t y' more r)
       ∙ closed_more one m.less y (x ++ (w ++ (g ++ (t ++ q)))) q r by
-        (ap one (past_to (is_name w name) x (g ++ (t ++ q)) bx)
-          ∙ part_found (form_at d) w g q q name bg apart s (exact s d (omega (arith, h)) q (follows_close y' (more ++ r) by' (parts_close others r))))
-        (parts_exact others d (omega (arith, h)) y' r by' m.less (omega (arith, m.enough, tails_le x w g t y' more)))
+      (ap one (past_to (is_name w name) x (g ++ (t ++ q)) bx)
+      ∙ part_found (form_at d) w g q q name bg apart s (exact s d (omega (arith, h)) q (follows_close y' (more ++ r) by' (parts_close others r))))
+      (parts_exact others d (omega (arith, h)) y' r by' m.less (omega (arith, m.enough, tails_le x w g t y' more)))

@@ -1,5 +1,5 @@
 -- What a text reads as is a value of the type.
-use Rattle.std.proofs.Common.{◌≡◌, ℕ, zero, suc, ◌+◌, ◌<◌, Bool, true, false, cond, ◌&&◌, ◌==◌, nat_le, nat_lt, ℤ, List, [], ◌∷◌, length, slice_get, Option, Some, None, option_map, inl, inr, refl, sym, ap, ◌∙◌, arith}
+use Rattle.std.proofs.Common.{◌≡◌, ℕ, suc, ◌<◌, Bool, true, false, cond, ◌&&◌, ◌==◌, nat_le, ℤ, List, [], ◌∷◌, length, slice_get, Option, Some, None, option_map, inl, inr, refl, sym, ap, ◌∙◌, arith}
 use Rattle.std.specs.List.{list_all}
 use Rattle.std.proofs.lemmas.Bool.{lt-ltb, cases_Bool}
 use Rattle.std.proofs.lemmas.Option.{none-some, cond_some}
@@ -41,14 +41,14 @@ mapped (Some x) g y h = record { value = x; is = refl; gives = same_value (g x) 
 place_within : (ids : List NameId) (n k : ℕ) → place_among ids n ≡ Some k → k < length ids
 place_within [] n k e = absurd (none-some k e)
 place_within (id ∷ ids) n k e = elim (cases_Bool (id.0 == n)) [
-    inl same ↦
+  | inl same ↦
       let first = same_value 0 k (sym (ap (λ b. cond b (Some 0) (option_map suc (place_among ids n))) same) ∙ e) in
       omega (arith, first)
   | inr other ↦
       let more = mapped (place_among ids n) suc k (sym (ap (λ b. cond b (Some 0) (option_map suc (place_among ids n))) other) ∙ e) in
       let before = place_within ids n more.value more.is in
       omega (arith, before, more.gives)
-  ]
+]
 
 all_same : (f g : Value → Bool) → ((v : Value) → f v ≡ g v) → (vs : List Value) → list_all f vs ≡ true → list_all g vs ≡ true
 all_same f g h [] all = refl

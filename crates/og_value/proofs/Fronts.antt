@@ -1,14 +1,14 @@
 -- Tokens in front of a text whose parts are known.
-use Rattle.std.proofs.Common.{◌≡◌, ◌⊎◌, ℕ, zero, suc, ◌+◌, ◌-◌, ◌<◌, ◌≤◌, Bool, true, false, cond, not, ◌&&◌, ◌||◌, ◌==◌, nat_le, List, [], ◌∷◌, ◌++◌, length, Option, Some, None, inl, inr, refl, sym, ap, ◌∙◌, subst, arith, length-append, append_assoc}
+use Rattle.std.proofs.Common.{◌≡◌, ℕ, ◌<◌, ◌≤◌, Bool, true, false, cond, ◌&&◌, ◌||◌, ◌==◌, nat_le, List, [], ◌∷◌, ◌++◌, length, Some, None, inl, inr, refl, sym, ap, ◌∙◌, subst, arith}
 use Rattle.std.proofs.lemmas.Bool.{false≢true, leb-true, eqb-true, cases_Bool}
 use Rattle.std.specs.List.{list_all}
 use Rattle.std.specs.Option.{is_none}
 use Rattle.std.specs.Int.{is_in_range}
-use Rattle.og_value.specs.Bytes.{is_blank, is_letter, is_digit, is_word, begins, run, behind, truth_of}
+use Rattle.og_value.specs.Bytes.{is_blank, is_letter, is_digit, is_word, begins, run, behind}
 use Rattle.og_value.specs.Forms.{IsDigits, IsName, AreBlanks}
-use Rattle.og_value.specs.Scans.{Found, and_then, unless_truth, past_blanks, mark_here, mark_at, digits_at, word_at, name_at, minus_digits_at}
+use Rattle.og_value.specs.Scans.{and_then, unless_truth, past_blanks, mark_here, digits_at, word_at, name_at, minus_digits_at}
 use Rattle.std.proofs.lemmas.Option.{none-some}
-use Rattle.og_names.proofs.Truths.{both_true, both_first, both_second, either_first, either_second, either_true, same_value}
+use Rattle.og_names.proofs.Truths.{both_true, both_first, both_second, either_first, either_true, same_value}
 use Rattle.og_value.proofs.Runs.{run_joined}
 
 -- ---- tests of bytes
@@ -16,9 +16,9 @@ use Rattle.og_value.proofs.Runs.{run_joined}
 -- a byte that passes is none that does not
 pub other_byte : (p : ℕ → Bool) (b m : ℕ) → p b ≡ true → p m ≡ false → (b == m) ≡ false
 other_byte p b m passes fails = elim (cases_Bool (b == m)) [
-    inl same ↦ absurd (false≢true (sym fails ∙ ap p (sym (eqb-true b m same)) ∙ passes))
+  | inl same ↦ absurd (false≢true (sym fails ∙ ap p (sym (eqb-true b m same)) ∙ passes))
   | inr differ ↦ differ
-  ]
+]
 
 -- no byte passes both tests
 abbrev Apart : (ℕ → Bool) → (ℕ → Bool) → Type 0
@@ -35,18 +35,18 @@ never false h = refl
 
 pub letters_digits : Apart is_letter is_digit
 letters_digits b h = never (is_digit b) (λ d. elim (either_true _ _ h) [
-    inl upper ↦ ranges_apart b 48 57 65 90 (omega arith) d upper
+  | inl upper ↦ ranges_apart b 48 57 65 90 (omega arith) d upper
   | inr lower ↦ ranges_apart b 48 57 97 122 (omega arith) d lower
-  ])
+])
 
 pub digits_letters : Apart is_digit is_letter
 digits_letters b h = never (is_letter b) (λ l. false≢true (sym (letters_digits b l) ∙ h))
 
 pub blank_is : (P : ℕ → Type 0) → P 32 → P 9 → (b : ℕ) → is_blank b ≡ true → P b
 blank_is P space tab b h = elim (either_true _ _ h) [
-    inl e ↦ subst P (sym (eqb-true b 32 e)) space
+  | inl e ↦ subst P (sym (eqb-true b 32 e)) space
   | inr e ↦ subst P (sym (eqb-true b 9 e)) tab
-  ]
+]
 
 pub blanks_words : Apart is_blank is_word
 blanks_words b h = blank_is (λ c. is_word c ≡ false) refl refl b h
@@ -78,16 +78,16 @@ behind_le p (b ∷ r) = shorter (p b) b (behind p r) r (behind_le p r)
 run_all : (p : ℕ → Bool) (bytes : List ℕ) → list_all p (run p bytes) ≡ true
 run_all p [] = refl
 run_all p (b ∷ bs) = elim (cases_Bool (p b)) [
-    inl h ↦ ap (λ t. list_all p (cond t (b ∷ run p bs) [])) h ∙ both_true _ _ h (run_all p bs)
+  | inl h ↦ ap (λ t. list_all p (cond t (b ∷ run p bs) [])) h ∙ both_true _ _ h (run_all p bs)
   | inr h ↦ ap (λ t. list_all p (cond t (b ∷ run p bs) [])) h
-  ]
+]
 
 behind_begins : (p : ℕ → Bool) (bytes : List ℕ) → begins p (behind p bytes) ≡ false
 behind_begins p [] = refl
 behind_begins p (b ∷ bs) = elim (cases_Bool (p b)) [
-    inl h ↦ ap (λ t. begins p (cond t (behind p bs) (b ∷ bs))) h ∙ behind_begins p bs
+  | inl h ↦ ap (λ t. begins p (cond t (behind p bs) (b ∷ bs))) h ∙ behind_begins p bs
   | inr h ↦ ap (λ t. begins p (cond t (behind p bs) (b ∷ bs))) h ∙ h
-  ]
+]
 
 run_begins : (p first : ℕ → Bool) → ((b : ℕ) → first b ≡ true → p b ≡ true) → (bytes : List ℕ) → begins first bytes ≡ true → begins first (run p bytes) ≡ true
 run_begins p first sub [] h = h
@@ -184,12 +184,12 @@ blanks_end_word (b ∷ x) r blanks ends = blanks_words b (both_first _ _ blanks)
 pub digits_were : (bytes : List ℕ) (p : List ℕ × List ℕ) → digits_at bytes ≡ Some p → IsDigits p.0 × (bytes ≡ p.0 ++ p.1)
 unfolding digits_at
 digits_were bytes p e = elim (cases_Bool (begins is_digit bytes)) [
-    inl h ↦
+  | inl h ↦
       let same : (run is_digit bytes, behind is_digit bytes) ≡ p = same_value _ p (sym (ap (λ t. cond t (Some (run is_digit bytes, behind is_digit bytes)) None) h) ∙ e) in
       subst (λ (q : List ℕ × List ℕ). IsDigits q.0 × (bytes ≡ q.0 ++ q.1)) same
       (record { some = run_begins is_digit is_digit (λ b x. x) bytes h; all = run_all is_digit bytes }, sym (run_joined is_digit bytes))
   | inr h ↦ absurd (none-some p (sym (ap (λ t. cond t (Some (run is_digit bytes, behind is_digit bytes)) None) h) ∙ e))
-  ]
+]
 
 pub record IsWordAt (bytes w rest : List ℕ) : Type 0 where
   pub letter : begins is_letter w ≡ true
@@ -200,25 +200,25 @@ pub record IsWordAt (bytes w rest : List ℕ) : Type 0 where
 pub word_was : (bytes : List ℕ) (p : List ℕ × List ℕ) → word_at bytes ≡ Some p → IsWordAt bytes p.0 p.1
 unfolding word_at
 word_was bytes p e = elim (cases_Bool (begins is_letter bytes)) [
-    inl h ↦
+  | inl h ↦
       let same : (run is_word bytes, behind is_word bytes) ≡ p = same_value _ p (sym (ap (λ t. cond t (Some (run is_word bytes, behind is_word bytes)) None) h) ∙ e) in
       subst (λ (q : List ℕ × List ℕ). IsWordAt bytes q.0 q.1) same (record {
         letter = run_begins is_word is_letter letter_is_word bytes h;
         all = run_all is_word bytes;
         front = sym (run_joined is_word bytes);
-        ends = behind_begins is_word bytes
+        ends = behind_begins is_word bytes;
       })
   | inr h ↦ absurd (none-some p (sym (ap (λ t. cond t (Some (run is_word bytes, behind is_word bytes)) None) h) ∙ e))
-  ]
+]
 
 pub mark_was : (m : ℕ) (bytes : List ℕ) (p : Unit {0} × List ℕ) → mark_here m bytes ≡ Some p → bytes ≡ m ∷ p.1
 mark_was m [] p e = absurd (none-some p e)
 mark_was m (b ∷ bs) p e = elim (cases_Bool (b == m)) [
-    inl h ↦
+  | inl h ↦
       let same : (tt, bs) ≡ p = same_value _ p (sym (ap (λ t. cond t (Some (tt, bs)) None) h) ∙ e) in
       λ i. eqb-true b m h i ∷ (same i).1
   | inr h ↦ absurd (none-some p (sym (ap (λ t. cond t (Some (tt, bs)) None) h) ∙ e))
-  ]
+]
 
 -- the blanks in front
 pub blanks_were : (bytes : List ℕ) → (x : List ℕ) × AreBlanks x × (bytes ≡ x ++ past_blanks bytes)

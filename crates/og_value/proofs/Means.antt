@@ -1,6 +1,5 @@
 -- A text that has the form of a value is read as the value that the form means.
-use Rattle.std.proofs.Common.{◌≡◌, ℕ, zero, suc, ◌+◌, ◌-◌, ◌<◌, ◌≤◌, max, Bool, true, false, cond, not, ◌||◌, ◌==◌, List, [], ◌∷◌, ◌++◌, length, slice_get, Option, Some, None, option_map, inl, inr, refl, sym, ap, ◌∙◌, subst, arith, length-append, append_assoc}
-use Rattle.std.specs.Option.{is_none}
+use Rattle.std.proofs.Common.{◌≡◌, ℕ, zero, suc, ◌≤◌, max, Bool, true, false, cond, List, [], ◌∷◌, ◌++◌, length, slice_get, Option, Some, None, option_map, refl, sym, ap, ◌∙◌, arith, append_assoc}
 use Rattle.std.proofs.lemmas.Bool.{false≢true}
 use Rattle.og_types.specs.declared.TypeId.{TypeId}
 use Rattle.og_types.specs.declared.Part.{Part}
@@ -8,14 +7,14 @@ use Rattle.og_types.specs.declared.Sort.{Sort}
 use Rattle.og_types.specs.declared.Sort.TheVariants as Sorts
 use Rattle.og_types.specs.declared.Value.{Value}
 use Rattle.og_types.specs.declared.Value as Values
-use Rattle.og_value.specs.Bytes.{is_blank, is_letter, is_digit, is_word, begins, truth_of}
-use Rattle.og_value.specs.Forms.{Form, Number, Truth, Name, Alternative, Items, Parts, Forms, no_item, item, Fields, no_part, part, IsDigits, IsName, AreBlanks, AreApart, Spells, is_number, is_negative, is_truth, is_name, is_alternative, are_none, are_items, are_parts, ItemsGoOn, no_more_items, further_item, PartsGoOn, no_more_parts, further_part, nesting, nesting_of_items, nesting_of_parts}
-use Rattle.og_value.specs.Reads.{◌>>=◌, Names, Chosen, integer, as_number, as_truth, as_name, alternative_of, item_of, as_items, components_of, is_called, value_of, values_of, fields_of}
-use Rattle.og_value.specs.Scans.{Found, Reader, and_then, found_or, kept, past_blanks, mark_here, mark_at, digits_at, minus_digits_at, word_at, name_at, comma_by, each_by, component_by, components_by, sequence_by, items_by, entries_by, inside_by, braced_by, chosen_by, named_by, worded_by, sorted_by, value_by, value_at, inner_value}
+use Rattle.og_value.specs.Bytes.{is_letter, is_digit, begins, truth_of}
+use Rattle.og_value.specs.Forms.{Form, Number, Truth, Name, Alternative, Items, Parts, Forms, item, Fields, part, IsName, AreBlanks, AreApart, Spells, is_number, is_negative, is_truth, is_name, is_alternative, are_none, are_items, are_parts, ItemsGoOn, no_more_items, further_item, PartsGoOn, no_more_parts, further_part, nesting, nesting_of_items, nesting_of_parts}
+use Rattle.og_value.specs.Reads.{◌>>=◌, Names, Chosen, integer, as_number, as_name, alternative_of, as_items, is_called, value_of, values_of, fields_of}
+use Rattle.og_value.specs.Scans.{Found, Reader, and_then, kept, past_blanks, mark_here, mark_at, digits_at, minus_digits_at, word_at, name_at, comma_by, each_by, component_by, components_by, sequence_by, items_by, entries_by, inside_by, chosen_by, named_by, worded_by, sorted_by, value_by, value_at, inner_value}
 use Rattle.og_value.proofs.Steps.{value_is}
 use Rattle.og_value.proofs.Fronts.{EndsWord, digits_exactly, ends_digits, word_exactly, name_exactly, no_digits, no_word, no_minus, blanks_off, begins_front}
 use Rattle.og_value.proofs.Spelt.{starts, closes, spelt_starts, past_to, spelt_no_mark, truth_letter, truth_all, Follows, follows_close, closes_behind, items_close, parts_close}
-use Rattle.og_value.proofs.Exact.{stops, stopping, close_stops, ends_before, group4, brace_behind, comma_behind, no_comma, comma_none, comma_found, no_name, truth_no_name, no_word_at_brace, no_word_at_minus, no_digits_at_minus, ends_apart, group_none, group_items, group_parts, deeper, front_of, tail_le, tails_le}
+use Rattle.og_value.proofs.Exact.{stops, stopping, close_stops, ends_before, group4, brace_behind, comma_behind, no_comma, comma_none, comma_found, no_name, truth_no_name, no_word_at_brace, no_word_at_minus, no_digits_at_minus, ends_apart, group_none, group_items, group_parts, deeper, front_of, tail_le}
 
 -- ---- what there is
 
@@ -205,7 +204,7 @@ part_goes : {A : Type 0} (read : TypeId → Reader Value) (names : Names) (p : P
 part_goes read names p ps y bytes after o rest go r by e more =
     components_one read names p ps (y ++ (44 ∷ bytes)) (ended go)
     ∙ ap (λ found. and_then found (λ v s. and_then (components_by read names ps s) (λ vs m. ended go (v ∷ vs) m)))
-      (comma_found (component_by read names p) (y ++ (44 ∷ bytes)) bytes (comma_behind y bytes by) ∙ e)
+    (comma_found (component_by read names p) (y ++ (44 ∷ bytes)) bytes (comma_behind y bytes by) ∙ e)
     ∙ goes o
   where
     goes : (o : Option Value) → and_then (kept o after) (λ v s. and_then (components_by read names ps s) (λ vs m. ended go (v ∷ vs) m)) ≡ given (o >>= λ v. option_map (λ vs. v ∷ vs) rest) (λ vs. go vs r)
@@ -262,7 +261,7 @@ module _ (types : List Sort) (names : Names) where
   component_is : (d : ℕ) (p : Part) (w g : List ℕ) {f : Form} {t : List ℕ} (q : List ℕ) → IsName w → AreBlanks g → AreApart g t → Spells f t
       → value_at d types names p.sort (t ++ q) ≡ kept (value_of types names (slice_get types p.sort.0) f) q
       → component_by (value_at d types names) names p (w ++ (g ++ (t ++ q)))
-        ≡ kept (cond (is_called names w p.name) (value_of types names (slice_get types p.sort.0) f) None) q
+      ≡ kept (cond (is_called names w p.name) (value_of types names (slice_get types p.sort.0) f) None) q
   component_is d p w g {f = f} {t = t} q name bg apart s e =
       component_named (value_at d types names) names p _ w (g ++ (t ++ q)) (name_exactly w (g ++ (t ++ q)) name (ends_apart g t q bg apart (spelt_starts s)))
       ∙ ap (λ found. cond (is_called names w p.name) found None) (ap (value_at d types names p.sort) (past_to s g q bg) ∙ e)
@@ -338,8 +337,8 @@ module _ (types : List Sort) (names : Names) where
       items_are d (Sorts.SeqOf lo hi id) id (w ++ behind) behind r (value_of types names (slice_get types id.0) (Name w)) None
       (value_is d types names id (w ++ behind) ∙ name_means d w behind (slice_get types id.0) name (ends_apart g t q bg apart (spelt_starts s)) (no_mark_behind 58 g q bg s refl))
       (λ v. let go : List Value → List ℕ → Found Value = λ vs end. kept (as_items (Some (Sorts.SeqOf lo hi id)) (v ∷ vs)) end in
-        each_none (comma_by (value_at d types names id)) (length behind) behind (ended go) (comma_none (value_at d types names id) behind (no_mark_behind 44 g q bg s refl))
-        ∙ not_ended go [] behind (no_mark_behind 125 g q bg s refl))
+      each_none (comma_by (value_at d types names id)) (length behind) behind (ended go) (comma_none (value_at d types names id) behind (no_mark_behind 44 g q bg s refl))
+      ∙ not_ended go [] behind (no_mark_behind 125 g q bg s refl))
       ∙ no_size (Sorts.SeqOf lo hi id) (value_of types names (slice_get types id.0) (Name w)) r
   parts_by_sort d (Sorts.Sequence []) w g fs q r name bg apart s first others = refl
   parts_by_sort d (Sorts.Int lo hi) w g fs q r name bg apart s first others = refl
@@ -402,8 +401,8 @@ module _ (types : List Sort) (names : Names) where
         ∙ ap (λ bs. sorted_by (Some read) names sort (123 ∷ bs)) (group_items x t y more r) ∙ by_brace read names sort (x ++ (t ++ q))
         ∙ ap (inside_by read names sort) (past_to s x q bx) ∙ inside_some read names sort (t ++ q) (spelt_no_mark s 125 q refl)
         ∙ items_by_sort inner.less sort fs q r s after.word (closes_behind y (more ++ r) by (items_close others r))
-          (by_type inner.less (t ++ q) q f (means s inner.less (omega (arith, inner.enough)) q after))
-          (items_mean others inner.less (omega (arith, inner.enough)) y r by (length q) (front_of y more r))
+        (by_type inner.less (t ++ q) q f (means s inner.less (omega (arith, inner.enough)) q after))
+        (items_mean others inner.less (omega (arith, inner.enough)) y r by (length q) (front_of y more r))
     means (are_parts x w g y {f = f} {fs = fs} {t = t} {more = more} bx name bg apart s by others) d h r follows sort =
         let inner = deeper d (max (nesting f) (nesting_of_parts fs)) h in
         let q = y ++ (more ++ r) in
@@ -414,8 +413,8 @@ module _ (types : List Sort) (names : Names) where
         ∙ ap (inside_by read names sort) (past_to (is_name w name) x (g ++ (t ++ q)) bx)
         ∙ inside_some read names sort (w ++ (g ++ (t ++ q))) (spelt_no_mark (is_name w name) 125 (g ++ (t ++ q)) refl)
         ∙ parts_by_sort inner.less sort w g fs q r name bg apart s
-          (by_type inner.less (t ++ q) q f (means s inner.less (omega (arith, inner.enough)) q after))
-          (parts_mean others inner.less (omega (arith, inner.enough)) y r by)
+        (by_type inner.less (t ++ q) q f (means s inner.less (omega (arith, inner.enough)) q after))
+        (parts_mean others inner.less (omega (arith, inner.enough)) y r by)
 
     items_mean : {fs : Forms} {more : List ℕ} → ItemsGoOn fs more → (d : ℕ) → nesting_of_items fs ≤ d → (y r : List ℕ) → AreBlanks y → (n : ℕ) → length more ≤ n
         → (id : TypeId) (go : List Value → List ℕ → Found Value)
@@ -428,8 +427,8 @@ module _ (types : List Sort) (names : Names) where
         ap (λ k. and_then (each_by (comma_by (value_at d types names id)) k (y ++ ((44 ∷ (x ++ (t ++ (y' ++ more)))) ++ r))) (ended go)) m.is
         ∙ ap (λ bs. and_then (each_by (comma_by (value_at d types names id)) (suc m.less) (y ++ (44 ∷ bs))) (ended go)) (group_items x t y' more r)
         ∙ item_goes (value_at d types names id) m.less y (x ++ (t ++ q)) q (value_of types names (slice_get types id.0) f) (values_of types names (slice_get types id.0) fs) go r by
-          (ap (value_at d types names id) (past_to s x q bx) ∙ by_type d (t ++ q) q f (means s d (omega (arith, h)) q after) id)
-          (λ v. items_mean others d (omega (arith, h)) y' r by' m.less (omega (arith, m.enough, tail_le x t y' more)) id (λ vs end. go (v ∷ vs) end))
+        (ap (value_at d types names id) (past_to s x q bx) ∙ by_type d (t ++ q) q f (means s d (omega (arith, h)) q after) id)
+        (λ v. items_mean others d (omega (arith, h)) y' r by' m.less (omega (arith, m.enough, tail_le x t y' more)) id (λ vs end. go (v ∷ vs) end))
 
     parts_mean : {fs : Fields} {more : List ℕ} → PartsGoOn fs more → (d : ℕ) → nesting_of_parts fs ≤ d → (y r : List ℕ) → AreBlanks y
         → (ps : List Part) (go : List Value → List ℕ → Found Value)
@@ -445,10 +444,10 @@ module _ (types : List Sort) (names : Names) where
         let after : Follows q = follows_close y' (more ++ r) by' (parts_close others r) in
         ap (λ bs. and_then (components_by (value_at d types names) names (p ∷ ps) (y ++ (44 ∷ bs))) (ended go)) (group_parts x w g t y' more r)
         ∙ part_goes (value_at d types names) names p ps y (x ++ (w ++ (g ++ (t ++ q)))) q
-          (cond (is_called names w p.name) (value_of types names (slice_get types p.sort.0) f) None) (fields_of types names ps fs) go r by
-          (ap (component_by (value_at d types names) names p) (past_to (is_name w name) x (g ++ (t ++ q)) bx)
-            ∙ component_is d p w g q name bg apart s (by_type d (t ++ q) q f (means s d (omega (arith, h)) q after) p.sort))
-          (λ v. parts_mean others d (omega (arith, h)) y' r by' ps (λ vs end. go (v ∷ vs) end))
+        (cond (is_called names w p.name) (value_of types names (slice_get types p.sort.0) f) None) (fields_of types names ps fs) go r by
+        (ap (component_by (value_at d types names) names p) (past_to (is_name w name) x (g ++ (t ++ q)) bx)
+        ∙ component_is d p w g q name bg apart s (by_type d (t ++ q) q f (means s d (omega (arith, h)) q after) p.sort))
+        (λ v. parts_mean others d (omega (arith, h)) y' r by' ps (λ vs end. go (v ∷ vs) end))
 
   -- a text that has the form of a value is read as what the form means
   pub text_means : {f : Form} {t : List ℕ} → Spells f t → (d : ℕ) → nesting f ≤ d → (r : List ℕ) → Follows r → (id : TypeId)

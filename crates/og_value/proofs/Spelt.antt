@@ -1,15 +1,15 @@
 -- How texts of values begin, and what may stand behind them.
-use Rattle.std.proofs.Common.{◌≡◌, ◌⊎◌, ℕ, zero, suc, ◌+◌, ◌<◌, ◌≤◌, Bool, true, false, cond, not, ◌&&◌, ◌||◌, ◌==◌, List, [], ◌∷◌, ◌++◌, length, bytes_eq, Option, Some, None, inl, inr, refl, sym, ap, ◌∙◌, subst, arith, append_assoc}
+use Rattle.std.proofs.Common.{◌≡◌, ◌⊎◌, ℕ, Bool, true, false, cond, ◌||◌, ◌==◌, List, [], ◌∷◌, ◌++◌, bytes_eq, Some, None, inl, inr, refl, sym, ap, ◌∙◌, subst}
 use Rattle.std.specs.Prelude.{codes}
 use Rattle.std.specs.List.{list_all}
 use Rattle.std.proofs.lemmas.Bool.{false≢true, eqb-true, cases_Bool}
 use Rattle.std.proofs.lemmas.Option.{none-some}
 use Rattle.std.proofs.lemmas.Slice.Eq.{bytes_eq-Decides}
 use Rattle.og_value.specs.Bytes.{is_blank, is_letter, is_digit, is_word, begins, truth_of}
-use Rattle.og_value.specs.Forms.{Form, Forms, Fields, IsDigits, IsName, AreBlanks, AreApart, Spells, is_number, is_negative, is_truth, is_name, is_alternative, are_none, are_items, are_parts, ItemsGoOn, no_more_items, further_item, PartsGoOn, no_more_parts, further_part}
+use Rattle.og_value.specs.Forms.{Form, Forms, Fields, AreBlanks, Spells, is_number, is_negative, is_truth, is_name, is_alternative, are_none, are_items, are_parts, ItemsGoOn, no_more_items, further_item, PartsGoOn, no_more_parts, further_part}
 use Rattle.og_value.specs.Scans.{past_blanks, mark_here, mark_at}
 use Rattle.og_value.proofs.Fronts.{EndsWord, never, blank_is, begins_front, blanks_off, blanks_stop, blanks_end_word, no_mark}
-use Rattle.og_names.proofs.Truths.{both_first, either_first, either_second, either_true}
+use Rattle.og_names.proofs.Truths.{either_first, either_second, either_true}
 
 -- a byte that a text of a value may begin with
 abbrev pub starts : ℕ → Bool
@@ -25,12 +25,12 @@ begins_more p q sub (b ∷ bs) h = sub b h
 -- TRUE or FALSE
 pub truth_word : (w : List ℕ) (b : Bool) → truth_of w ≡ Some b → (w ≡ codes "TRUE") ⊎ (w ≡ codes "FALSE")
 truth_word w b h = elim (cases_Bool (bytes_eq w (codes "TRUE"))) [
-    inl same ↦ inl ((bytes_eq-Decides w (codes "TRUE")).0 same)
+  | inl same ↦ inl ((bytes_eq-Decides w (codes "TRUE")).0 same)
   | inr differ ↦ elim (cases_Bool (bytes_eq w (codes "FALSE"))) [
-      inl same ↦ inr ((bytes_eq-Decides w (codes "FALSE")).0 same)
+    | inl same ↦ inr ((bytes_eq-Decides w (codes "FALSE")).0 same)
     | inr other ↦ absurd (none-some b (sym (λ i. cond (differ i) (Some true) (cond (other i) (Some false) None)) ∙ h))
-    ]
   ]
+]
 
 pub truth_letter : (w : List ℕ) (b : Bool) → truth_of w ≡ Some b → begins is_letter w ≡ true
 truth_letter w b h = elim (truth_word w b h) [ inl e ↦ ap (begins is_letter) e | inr e ↦ ap (begins is_letter) e ]
@@ -76,15 +76,15 @@ closes b = b == 44 || b == 125
 
 pub closing : (P : ℕ → Type 0) → P 44 → P 125 → (b : ℕ) → closes b ≡ true → P b
 closing P comma brace b h = elim (either_true _ _ h) [
-    inl e ↦ subst P (sym (eqb-true b 44 e)) comma
+  | inl e ↦ subst P (sym (eqb-true b 44 e)) comma
   | inr e ↦ subst P (sym (eqb-true b 125 e)) brace
-  ]
+]
 
 pub follows_close : (y r : List ℕ) → AreBlanks y → begins closes r ≡ true → Follows (y ++ r)
 follows_close y [] blanks h = absurd (false≢true h)
 follows_close y (b ∷ r) blanks h = record {
   word = blanks_end_word y (b ∷ r) blanks (closing (λ c. is_word c ≡ false) refl refl b h);
-  colon = ap (mark_here 58) (blanks_off y (b ∷ r) blanks) ∙ closing (λ c. mark_here 58 (past_blanks (c ∷ r)) ≡ None) refl refl b h
+  colon = ap (mark_here 58) (blanks_off y (b ∷ r) blanks) ∙ closing (λ c. mark_here 58 (past_blanks (c ∷ r)) ≡ None) refl refl b h;
 }
 
 pub closes_behind : (y r : List ℕ) → AreBlanks y → begins closes r ≡ true → begins closes (past_blanks (y ++ r)) ≡ true

@@ -1,5 +1,5 @@
 -- What is found in front of bytes is what the longest text there reads as.
-use Rattle.std.proofs.Common.{◌≡◌, ℕ, ◌+◌, ◌-◌, ◌≤◌, List, [], ◌++◌, length, take, drop, slice_get, Option, Some, None, Err, inl, inr, refl, sym, ap, ◌∙◌, subst, arith, length-append}
+use Rattle.std.proofs.Common.{◌≡◌, ℕ, ◌+◌, ◌-◌, List, [], ◌++◌, length, drop, slice_get, Option, Some, None, Err, inl, inr, refl, sym, ap, ◌∙◌, subst}
 use Rattle.std.proofs.lemmas.List.{append-nil}
 use Rattle.std.proofs.lemmas.Option.{none-some}
 use Rattle.og_names.proofs.Truths.{same_value}
@@ -13,12 +13,12 @@ use Rattle.og_value.specs.declared.read.ReadValue.{ReadValue}
 use Rattle.og_value.specs.Answers.{Gives}
 use Rattle.og_value.specs.Forms.{IsLongest}
 use Rattle.og_value.specs.Reads.{Names, value_of, Reads, IsReadAt}
-use Rattle.og_value.specs.Scans.{Found, kept, before, sized, form_at, value_at, found_before, found_in}
+use Rattle.og_value.specs.Scans.{kept, before, sized, form_at, value_at, found_before, found_in}
 use Rattle.og_value.proofs.Runs.{before_is, front_len}
 use Rattle.og_value.proofs.Spelt.{follows_end}
-use Rattle.og_value.proofs.Sound.{found_cases, IsSpelt, sound}
+use Rattle.og_value.proofs.Sound.{found_cases}
 use Rattle.og_value.proofs.Means.{text_means}
-use Rattle.og_value.proofs.Longest.{Passed, passed_is_longest, none_passed, one_longest}
+use Rattle.og_value.proofs.Longest.{passed_is_longest, none_passed, one_longest}
 
 module _ (types : List Sort) (names : Names) (id : TypeId) where
   not_found : (bytes : List ℕ) → form_at 64 bytes ≡ None → found_in types names id bytes ≡ None
@@ -47,13 +47,13 @@ module _ (types : List Sort) (names : Names) (id : TypeId) where
   -- what the longest text in front reads as is found
   pub read_is_found : (bytes text : List ℕ) (v : Value) → IsLongest bytes text → Reads types names id text v → found_in types names id bytes ≡ Some (v, length text)
   read_is_found bytes text v longest reads = elim (found_cases (form_at 64 bytes)) [
-      inl none ↦ absurd (none_passed bytes text none longest)
+    | inl none ↦ absurd (none_passed bytes text none longest)
     | inr found ↦
         let passed = passed_is_longest bytes found.0.1 found.1 in
         let same = one_longest bytes passed.text text passed.longest longest in
         found_text bytes passed.text found.0.1 passed.front found.1
         ∙ ap (λ (xs : List ℕ). sized (length xs) (value_at 64 types names id xs)) same ∙ ap (sized (length text)) (whole text v reads)
-    ]
+  ]
 
   -- what is found is what the longest text in front reads as
   pub record IsFound (bytes : List ℕ) (v : Value) (n : ℕ) : Type 0 where
@@ -72,15 +72,15 @@ module _ (types : List Sort) (names : Names) (id : TypeId) where
 
   pub found_is_read : (bytes : List ℕ) (v : Value) (n : ℕ) → found_in types names id bytes ≡ Some (v, n) → IsFound bytes v n
   found_is_read bytes v n e = elim (found_cases (form_at 64 bytes)) [
-      inl none ↦ absurd (none-some (v, n) (sym (not_found bytes none) ∙ e))
+    | inl none ↦ absurd (none-some (v, n) (sym (not_found bytes none) ∙ e))
     | inr found ↦
         let passed = passed_is_longest bytes found.0.1 found.1 in
         let form = passed.longest.form in
         by_meaning bytes passed.text v n (value_of types names (slice_get types id.0) form.form) passed.longest
         (λ w means. record { form = form.form; spelt = form.spelt; nested = form.nested; means = means })
         (sym (ap (sized (length passed.text)) (ap (value_at 64 types names id) (sym (append-nil passed.text)) ∙ text_means types names form.spelt 64 form.nested [] follows_end id))
-          ∙ sym (found_text bytes passed.text found.0.1 passed.front found.1) ∙ e)
-    ]
+        ∙ sym (found_text bytes passed.text found.0.1 passed.front found.1) ∙ e)
+  ]
 
 -- ---- what the call answers
 

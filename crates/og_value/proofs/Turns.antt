@@ -5,7 +5,7 @@ use Rattle.og_types.specs.declared.TypeId.{TypeId}
 use Rattle.og_types.specs.declared.Part.{Part}
 use Rattle.og_types.specs.declared.Value.{Value}
 use Rattle.og_value.specs.Reads.{Names}
-use Rattle.og_value.specs.Scans.{Found, Reader, and_then, found_or, each_by, comma_by, component_by, components_by}
+use Rattle.og_value.specs.Scans.{Found, Reader, and_then, each_by, comma_by, component_by, components_by}
 use Rattle.og_value.specs.Answers.{with_front}
 
 regroup : {X : Type 0} (front : List X) (x : X) (found : Found (List X))
@@ -70,7 +70,7 @@ through_first read names front parts rest = record { is = refl }
 
 step : (read : TypeId → Reader Value) (names : Names) (p : Part) (parts : List Part) (rest : List ℕ)
     → components_by read names (p ∷ parts) rest
-      ≡ and_then (comma_by (component_by read names p) rest) (λ v after. and_then (components_by read names parts after) (λ vs more. Some (v ∷ vs, more)))
+    ≡ and_then (comma_by (component_by read names p) rest) (λ v after. and_then (components_by read names parts after) (λ vs more. Some (v ∷ vs, more)))
 unfolding components_by
 step read names p parts rest = refl
 
@@ -91,7 +91,7 @@ through_stop read names front parts i d rest total lt e so_far =
     let split = at_drop_more (λ (ps : List Part). components_by read names ps rest) parts i d lt in
     sym so_far.is
     ∙ ap (with_front front) (split ∙ step read names (get_or parts i d) (drop (i + 1) parts) rest
-      ∙ ap (λ found. and_then found (λ w r. and_then (components_by read names (drop (i + 1) parts) r) (λ vs more. Some (w ∷ vs, more)))) e)
+    ∙ ap (λ found. and_then found (λ w r. and_then (components_by read names (drop (i + 1) parts) r) (λ vs more. Some (w ∷ vs, more)))) e)
 
 pub through_end : (read : TypeId → Reader Value) (names : Names) (front : List Value) (parts : List Part) (i : ℕ) (rest : List ℕ) (total : Found (List Value))
     → length parts ≤ i → Through read names front parts i rest total → total ≡ Some (front, rest)

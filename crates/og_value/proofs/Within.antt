@@ -64,7 +64,8 @@ fits_more inside parts vs i d v total lt some good so_far =
     let inside_it : i < length vs = slice_get_within vs i v (sym some) in
     record {
       is = ap (λ b. b && in_parts inside (drop (i + 1) parts) (drop (i + 1) vs)) good ∙ sym (both inside parts vs i d v lt some) ∙ so_far.is;
-      there = omega (arith, inside_it) }
+      there = omega (arith, inside_it);
+    }
 
 none_left : (inside : TypeId → Value → Bool) (vs : List Value) (i n : ℕ) → i ≤ length vs → n ≡ i → nat_eq n (length vs) ≡ in_parts inside [] (drop i vs)
 none_left inside [] zero n le e = ap (λ m. nat_eq m 0) e

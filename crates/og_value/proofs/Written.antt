@@ -1,5 +1,5 @@
 -- Writing texts one after the other, and what stays where memory cannot be had.
-use Rattle.std.proofs.Common.{◌≡◌, ◌≤◌, ◌<◌, ℕ, zero, suc, ◌+◌, codes, take, List, [], ◌∷◌, ◌++◌, length, map, drop, get_or, slice_get, Option, Some, None, refl, sym, ap, ◌∙◌, append_assoc, arith}
+use Rattle.std.proofs.Common.{◌≡◌, ◌≤◌, ◌<◌, ℕ, suc, ◌+◌, codes, take, List, [], ◌∷◌, ◌++◌, length, map, drop, get_or, slice_get, Option, Some, None, refl, sym, ap, ◌∙◌, append_assoc, arith}
 use Rattle.std.proofs.lemmas.List.{append-nil, at_drop_more, at_drop_all}
 use Rattle.og_types.specs.declared.TypeId.{TypeId}
 use Rattle.og_types.specs.declared.Sort.{Sort}
@@ -67,12 +67,13 @@ writes_text old now comma next i text texts total c t so_far =
     let more : List ℕ = from_place (suc i) texts in
     record {
       is = ap (λ m. next ++ from_place m texts) n
-        ∙ ap (λ xs. xs ++ more) (t ∙ ap (λ xs. xs ++ text) c)
-        ∙ append_assoc (now ++ comma_before i) text more
-        ∙ append_assoc now (comma_before i) (text ++ more)
-        ∙ so_far.is;
+          ∙ ap (λ xs. xs ++ more) (t ∙ ap (λ xs. xs ++ text) c)
+          ∙ append_assoc (now ++ comma_before i) text more
+          ∙ append_assoc now (comma_before i) (text ++ more)
+          ∙ so_far.is;
       kept = keeps_then old now next so_far.kept
-        (keeps_then now comma next (keeps_more now comma (comma_before i) c) (keeps_more comma next text t)) }
+          (keeps_then now comma next (keeps_more now comma (comma_before i) c) (keeps_more comma next text t));
+    }
 
 writes_all : (old now : List ℕ) (i : ℕ) (total : List ℕ) → Writes old now i [] total → now ≡ total
 unfolding from_place
@@ -88,15 +89,15 @@ pub items_more : (show : Value → List ℕ) (vs : List Value) (v : Value) (old 
     → Writes old now i (map show (drop i vs)) total → Writes old next (i + 1) (map show (drop (i + 1) vs)) total
 items_more show vs v old now comma next i total lt at c t so_far =
     let one : now ++ from_place i (map show (drop i vs)) ≡ now ++ from_place i (show v ∷ map show (drop (i + 1) vs)) =
-        at_drop_more (λ us. now ++ from_place i (map show us)) vs i v lt
-        ∙ ap (λ u. now ++ from_place i (show u ∷ map show (drop (i + 1) vs))) (sym at) in
+    at_drop_more (λ us. now ++ from_place i (map show us)) vs i v lt
+    ∙ ap (λ u. now ++ from_place i (show u ∷ map show (drop (i + 1) vs))) (sym at) in
     writes_text old now comma next i (show v) (map show (drop (i + 1) vs)) total c t (record { is = sym one ∙ so_far.is; kept = so_far.kept })
 
 pub items_end : (show : Value → List ℕ) (vs : List Value) (old now : List ℕ) (i : ℕ) (total : List ℕ)
     → length vs ≤ i → Writes old now i (map show (drop i vs)) total → now ≡ total
 items_end show vs old now i total le so_far =
     writes_all old now i total
-      (record { is = sym (at_drop_all (λ us. now ++ from_place i (map show us)) vs i le) ∙ so_far.is; kept = so_far.kept })
+    (record { is = sym (at_drop_all (λ us. now ++ from_place i (map show us)) vs i le) ∙ so_far.is; kept = so_far.kept })
 
 -- ---- components
 
@@ -113,11 +114,11 @@ pub parts_more : (show : TypeId → Value → List ℕ) (names : Names) (parts :
     → Writes old now i (parts_from show names parts vs i) total → Writes old next (i + 1) (parts_from show names parts vs (i + 1)) total
 parts_more show names parts vs d v old now comma next i total lt some c t so_far =
     let both : now ++ from_place i (parts_from show names parts vs i)
-        ≡ now ++ from_place i (part_text show names (get_or parts i d) v ∷ parts_from show names parts vs (i + 1)) =
-        at_drop_more (λ ps. now ++ from_place i (part_texts show names ps (drop i vs))) parts i d lt
-        ∙ there (λ us. now ++ from_place i (part_texts show names (get_or parts i d ∷ drop (i + 1) parts) us)) vs i v some in
+    ≡ now ++ from_place i (part_text show names (get_or parts i d) v ∷ parts_from show names parts vs (i + 1)) =
+    at_drop_more (λ ps. now ++ from_place i (part_texts show names ps (drop i vs))) parts i d lt
+    ∙ there (λ us. now ++ from_place i (part_texts show names (get_or parts i d ∷ drop (i + 1) parts) us)) vs i v some in
     writes_text old now comma next i (part_text show names (get_or parts i d) v) (parts_from show names parts vs (i + 1)) total c t
-      (record { is = sym both ∙ so_far.is; kept = so_far.kept })
+    (record { is = sym both ∙ so_far.is; kept = so_far.kept })
 
 no_texts : (show : TypeId → Value → List ℕ) (names : Names) (parts : List Part) → part_texts show names parts [] ≡ []
 no_texts show names [] = refl
@@ -127,13 +128,13 @@ pub parts_none : (show : TypeId → Value → List ℕ) (names : Names) (parts :
     → None ≡ slice_get vs i → Writes old now i (parts_from show names parts vs i) total → now ≡ total
 parts_none show names parts vs old now i total none so_far =
     let nothing : parts_from show names parts vs i ≡ [] =
-        ap (part_texts show names (drop i parts)) (drop_past vs i none) ∙ no_texts show names (drop i parts) in
+    ap (part_texts show names (drop i parts)) (drop_past vs i none) ∙ no_texts show names (drop i parts) in
     writes_all old now i total (record { is = sym (ap (λ ts. now ++ from_place i ts) nothing) ∙ so_far.is; kept = so_far.kept })
 
 pub parts_end : (show : TypeId → Value → List ℕ) (names : Names) (parts : List Part) (vs : List Value) (old now : List ℕ) (i : ℕ) (total : List ℕ)
     → length parts ≤ i → Writes old now i (parts_from show names parts vs i) total → now ≡ total
 parts_end show names parts vs old now i total le so_far =
     writes_all old now i total
-      (record { is = sym (at_drop_all (λ ps. now ++ from_place i (part_texts show names ps (drop i vs))) parts i le) ∙ so_far.is; kept = so_far.kept })
+    (record { is = sym (at_drop_all (λ ps. now ++ from_place i (part_texts show names ps (drop i vs))) parts i le) ∙ so_far.is; kept = so_far.kept })
 
 pub ruleset writing = (keeps_all, keeps_more, keeps_then, cut_back, items_first, items_more, items_end, parts_first, parts_more, parts_none, parts_end)

@@ -125,8 +125,8 @@ unfoldable pub form_by : Option (Reader (Unit {0})) → Reader (Unit {0})
 form_by inner bytes =
     found_or (digits_at bytes)
     (found_or (minus_digits_at bytes)
-      (found_or (word_at bytes) (open_by inner bytes) (λ w rest. Some (tt, past_word inner (truth_of w) rest)))
-      (λ _ rest. Some (tt, rest)))
+    (found_or (word_at bytes) (open_by inner bytes) (λ w rest. Some (tt, past_word inner (truth_of w) rest)))
+    (λ _ rest. Some (tt, rest)))
     (λ _ rest. Some (tt, rest))
 
 -- the longest text of a value in front that nests at most so deep
@@ -203,8 +203,8 @@ unfoldable pub sorted_by : Option (TypeId → Reader Value) → Names → Sort �
 sorted_by read names sort bytes =
     found_or (digits_at bytes)
     (found_or (minus_digits_at bytes)
-      (found_or (word_at bytes) (braced_by read names sort bytes) (λ w rest. worded_by read names sort w (truth_of w) rest))
-      (λ ds rest. kept (as_number (Some sort) (integer true ds)) rest))
+    (found_or (word_at bytes) (braced_by read names sort bytes) (λ w rest. worded_by read names sort w (truth_of w) rest))
+    (λ ds rest. kept (as_number (Some sort) (integer true ds)) rest))
     (λ ds rest. kept (as_number (Some sort) (integer false ds)) rest)
 
 abbrev pub value_by : Option (TypeId → Reader Value) → Names → Option Sort → Reader Value

@@ -17,8 +17,8 @@ mod write;
 pub use membership::fits;
 use og_names::NoMemory;
 pub use read::{ReadValue, read_value, value_end};
-pub use write::write_value;
 use std::alloc::{AllocError, AllocFailed};
+pub use write::write_value;
 
 /// Why a text gives no value: the longest text of a value at its place reads as none of the type, or there is none; or memory
 /// could not be had.

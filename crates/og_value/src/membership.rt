@@ -1,5 +1,6 @@
 //! Whether a value is one of a type (X.680).
 #![tactic(auto, using(crate::proofs::Within::fitting, og_names::proofs::Loops::loops))]
+
 ghost use Rattle.std.specs.Prelude.{◌≡◌, Some};
 ghost use Rattle.std.specs.List.{list_all};
 ghost use Rattle.og_types.specs.declared.Value.{out-Value};
@@ -18,7 +19,6 @@ pub fn fits(types: &TypeTable, id: TypeId, value: &Value) -> bool
 
 /// The same, going down at most so many times.
 #[cycle(fits)]
-
 fn fits_within(depth: usize, sorts: &[Sort], id: TypeId, value: &Value) -> bool
     ensures { result ≡ in_within depth sorts.now id value.now }
 {

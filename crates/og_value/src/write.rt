@@ -1,5 +1,6 @@
 //! The text that a value shows.
 #![tactic(auto, using(crate::proofs::Written::writing))]
+
 ghost use Rattle.std.specs.Prelude.{◌≡◌, ◌++◌, Some, OnOk, OnErr, map, if◌then◌else◌, codes, slice_get};
 ghost use Rattle.std.specs.Fmt.{signed_decimal};
 ghost use Rattle.og_types.specs.declared.Value.{out-Value};
@@ -24,14 +25,7 @@ pub fn write_value(
     ensures refused { OnErr result (out.new.items ≡ out.old.items) }
 {
     let len = out.len();
-    match put_value(
-        id.0 as usize + 1,
-        types.as_slice(),
-        names,
-        id,
-        value,
-        out,
-    ) {
+    match put_value(id.0 as usize + 1, types.as_slice(), names, id, value, out) {
         Ok(()) => Ok(()),
         Err(met) => {
             out.truncate(len);

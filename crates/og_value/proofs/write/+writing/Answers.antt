@@ -1,4 +1,3 @@
-use Rattle.std.proofs.Common.{◌≡◌}
 use Rattle.og_value.proofs.Written.{items_more, items_end, parts_more, parts_none, parts_end}
 use Rattle.og_value.proofs.write.+writing.Goals as goal
 
@@ -6,7 +5,7 @@ use Rattle.og_value.proofs.write.+writing.Goals as goal
 pub put_items-loop-place-preserved : goal.put_items-loop-place-preserved
 put_items-loop-place-preserved t c =
     items_more _ _ _ _ _ _ _ _ _ c.loop-place-test.true c.index-values-place.is c.in_ok-put_comma.ensures.ok c.in_ok-put_value.ensures.ok
-      c.loop-place.invariant
+    c.loop-place.invariant
 
 -- src/write.rt:246:1
 pub put_items-returns-clause-ok : goal.put_items-returns-clause-ok

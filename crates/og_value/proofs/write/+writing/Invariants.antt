@@ -24,9 +24,9 @@ decreases-put_items l = 4 * l.depth + 2
 abbrev pub invariant-put_parts-loop-place : goal.invariant-put_parts-loop-place
 invariant-put_parts-loop-place l =
     Writes l.fn.out.items l.out.items l.place (parts_from (text_within l.depth l.sorts l.names) l.names l.parts l.values l.place)
-      (l.fn.out.items ++ separated (part_texts (text_within l.depth l.sorts l.names) l.names l.parts l.values))
+    (l.fn.out.items ++ separated (part_texts (text_within l.depth l.sorts l.names) l.names l.parts l.values))
 
 abbrev pub invariant-put_items-loop-place : goal.invariant-put_items-loop-place
 invariant-put_items-loop-place l =
     Writes l.fn.out.items l.out.items l.place (map (text_within l.depth l.sorts l.names l.item) (drop l.place l.values))
-      (l.fn.out.items ++ separated (map (text_within l.depth l.sorts l.names l.item) l.values))
+    (l.fn.out.items ++ separated (map (text_within l.depth l.sorts l.names l.item) l.values))
