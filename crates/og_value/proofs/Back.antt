@@ -1,5 +1,5 @@
 -- The text that a value shows has a form that means the value.
-use Rattle.std.proofs.Common.{◌≡◌, ℕ, zero, suc, ◌+◌, ◌<◌, ◌≤◌, max, Bool, true, false, cond, not, ◌&&◌, nat_eq, nat_le, nat_lt, ℤ, codes, List, [], ◌∷◌, ◌++◌, length, map, slice_get, Option, Some, None, option_map, refl, sym, ap, ◌∙◌, subst, arith, append_assoc}
+use Rattle.std.proofs.Common.{◌≡◌, ℕ, zero, suc, ◌+◌, ◌<◌, ◌≤◌, Bool, true, false, cond, not, ◌&&◌, nat_eq, nat_le, nat_lt, ℤ, codes, List, [], ◌∷◌, ◌++◌, length, map, slice_get, Option, Some, None, option_map, refl, sym, ap, ◌∙◌, subst, arith, append_assoc}
 use Rattle.std.specs.List.{list_all}
 use Rattle.std.proofs.lemmas.Bool.{false≢true, ltb-true}
 use Rattle.std.specs.Fmt.{signed_decimal}
@@ -17,15 +17,14 @@ use Rattle.og_types.specs.declared.Value as Values
 use Rattle.og_types.specs.declared.Value.TheOpen as Open
 use Rattle.og_types.specs.declared.Value.TheViews.{rolls-Int, rolls-Bool, rolls-Enumerated, rolls-Sequence, rolls-Choice, rolls-SeqOf}
 use Rattle.og_types.specs.Values.{is_between, in_parts, in_part, in_sort, in_within, is_in}
-use Rattle.og_types.specs.Table.{in_64_bits, is_empty, all_differ, same_name, is_sort_after, depth_of_parts, depth_of_sort, depth_within, depth, is_table, are_parts_below}
+use Rattle.og_types.specs.Table.{in_64_bits, is_empty, all_differ, same_name, is_sort_after, depth_of_parts, depth_of_sort, depth_within, depth, is_table}
 use Rattle.og_types.proofs.Tables.{sort_after}
-use Rattle.og_value.specs.Bytes.{is_letter, is_word, begins, truth_of}
-use Rattle.og_value.specs.Forms.{Form, Number, Truth, Name, Alternative, Items, Parts, Forms, no_item, item, Fields, no_part, part, IsName, Spells, is_truth, is_name, is_alternative, are_none, are_items, are_parts, ItemsGoOn, no_more_items, further_item, PartsGoOn, no_more_parts, further_part, nesting, nesting_of_items, nesting_of_parts}
-use Rattle.og_value.specs.Reads.{◌>>=◌, Names, Chosen, as_number, place_among, place_of_word, names_of, chosen, chosen_at, as_items, is_called, value_of, values_of, fields_of}
+use Rattle.og_value.specs.Forms.{Form, Number, Truth, Name, Alternative, Items, Parts, Forms, no_item, item, Fields, no_part, part, Spells, is_truth, is_name, is_alternative, are_none, are_items, are_parts, ItemsGoOn, no_more_items, further_item, PartsGoOn, no_more_parts, further_part, nesting, nesting_of_items, nesting_of_parts}
+use Rattle.og_value.specs.Reads.{◌>>=◌, Names, Chosen, as_number, place_among, names_of, chosen, chosen_at, as_items, is_called, value_of, values_of, fields_of}
 use Rattle.og_value.specs.Shows.{name_text, truth_text, enumerator_text, separated, braced, part_text, part_texts, alternative_text, text_of_sort, text_within, shown}
 use Rattle.og_value.specs.Named.{has_spelling, have_names, has_names_of_sort, has_names_within, has_names}
 use Rattle.og_value.proofs.Decimals.{number_text}
-use Rattle.og_value.proofs.Placed.{IsNameText, name_is, called, enumerator_among, part_among}
+use Rattle.og_value.proofs.Placed.{name_is, called, enumerator_among, part_among}
 
 -- ---- texts in braces
 

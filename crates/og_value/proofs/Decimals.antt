@@ -1,11 +1,11 @@
 -- Decimal numbers as texts.
-use Rattle.std.proofs.Common.{◌≡◌, ℕ, zero, suc, ◌+◌, ◌-◌, ◌*◌, ◌/◌, ◌%◌, ◌^◌, ◌<◌, ◌≤◌, Bool, true, false, ◌&&◌, ℤ, pos, negsuc, neg_ℤ, int_le, List, [], ◌∷◌, ◌++◌, Some, refl, sym, ap, ◌∙◌, arith}
+use Rattle.std.proofs.Common.{◌≡◌, ℕ, suc, ◌+◌, ◌-◌, ◌*◌, ◌/◌, ◌%◌, ◌^◌, ◌<◌, ◌≤◌, Bool, true, false, ℤ, pos, negsuc, neg_ℤ, int_le, List, [], ◌∷◌, ◌++◌, refl, ap, ◌∙◌, arith}
 use Rattle.std.specs.List.{list_all}
 use Rattle.std.specs.Fmt.{decimal, signed_decimal}
 use Rattle.std.proofs.lemmas.Bool.{false≢true, leb-true, le-leb}
 use Rattle.std.proofs.lemmas.Fmt.{decimal_by_steps}
 use Rattle.og_names.proofs.Truths.{both_true, both_first, both_second}
-use Rattle.og_value.specs.Bytes.{is_digit, begins, number_from, number_of}
+use Rattle.og_value.specs.Bytes.{is_digit, number_from, number_of}
 use Rattle.og_types.specs.Values.{is_between}
 use Rattle.og_types.specs.Table.{in_64_bits}
 use Rattle.og_value.specs.Forms.{Number, IsDigits, Spells, is_number, is_negative}

@@ -1,13 +1,13 @@
 -- A text of a value is read to its end, where nothing behind it goes on with it.
-use Rattle.std.proofs.Common.{◌≡◌, ℕ, zero, suc, ◌+◌, ◌-◌, ◌<◌, ◌≤◌, max, Bool, true, false, cond, not, ◌||◌, ◌==◌, List, [], ◌∷◌, ◌++◌, length, Option, Some, None, inl, inr, refl, sym, ap, ◌∙◌, subst, arith, length-append, append_assoc}
+use Rattle.std.proofs.Common.{◌≡◌, ℕ, zero, suc, ◌≤◌, max, Bool, true, false, cond, not, ◌||◌, ◌==◌, List, [], ◌∷◌, ◌++◌, length, Option, Some, None, inl, inr, refl, sym, ap, ◌∙◌, subst, arith, length-append, append_assoc}
 use Rattle.std.specs.Option.{is_none}
 use Rattle.std.proofs.lemmas.Bool.{false≢true, eqb-true}
 use Rattle.og_names.proofs.Truths.{both_first, either_first, either_true, not_true}
-use Rattle.og_value.specs.Bytes.{is_blank, is_letter, is_digit, is_word, begins, truth_of}
+use Rattle.og_value.specs.Bytes.{is_letter, is_digit, is_word, begins, truth_of}
 use Rattle.og_value.specs.Forms.{Form, Forms, Fields, IsDigits, IsName, AreBlanks, AreApart, Spells, is_number, is_negative, is_truth, is_name, is_alternative, are_none, are_items, are_parts, ItemsGoOn, no_more_items, further_item, PartsGoOn, no_more_parts, further_part, nesting, nesting_of_items, nesting_of_parts}
-use Rattle.og_value.specs.Scans.{Found, Reader, and_then, found_or, rest_or, unless_truth, past_blanks, mark_here, mark_at, digits_at, minus_digits_at, word_at, name_at, comma_by, past_by, past_all, part_by, closed_by, braces_by, open_by, colon_by, past_choice, past_word, form_by, form_at, inner_form}
+use Rattle.og_value.specs.Scans.{Reader, and_then, found_or, rest_or, unless_truth, past_blanks, mark_here, mark_at, digits_at, minus_digits_at, word_at, name_at, comma_by, past_by, past_all, part_by, closed_by, braces_by, open_by, colon_by, past_choice, past_word, form_by, form_at, inner_form}
 use Rattle.og_value.proofs.Steps.{form_is}
-use Rattle.og_value.proofs.Fronts.{EndsWord, digits_exactly, ends_digits, word_exactly, name_exactly, no_digits, no_word, no_mark, no_minus, blanks_off, blanks_end_word, blanks_words, begins_front}
+use Rattle.og_value.proofs.Fronts.{EndsWord, digits_exactly, ends_digits, word_exactly, name_exactly, no_digits, no_word, no_minus, blanks_off, blanks_end_word, blanks_words, begins_front}
 use Rattle.og_value.proofs.Spelt.{starts, closes, closing, spelt_starts, past_to, spelt_no_mark, truth_letter, truth_all, Follows, follows_close, closes_behind, items_close, parts_close}
 
 -- ---- one level

@@ -1,14 +1,14 @@
 -- Tokens in front of a text whose parts are known.
-use Rattle.std.proofs.Common.{◌≡◌, ◌⊎◌, ℕ, zero, suc, ◌+◌, ◌-◌, ◌<◌, ◌≤◌, Bool, true, false, cond, not, ◌&&◌, ◌||◌, ◌==◌, nat_le, List, [], ◌∷◌, ◌++◌, length, Option, Some, None, inl, inr, refl, sym, ap, ◌∙◌, subst, arith, length-append, append_assoc}
+use Rattle.std.proofs.Common.{◌≡◌, ℕ, ◌<◌, ◌≤◌, Bool, true, false, cond, ◌&&◌, ◌||◌, ◌==◌, nat_le, List, [], ◌∷◌, ◌++◌, length, Some, None, inl, inr, refl, sym, ap, ◌∙◌, subst, arith}
 use Rattle.std.proofs.lemmas.Bool.{false≢true, leb-true, eqb-true, cases_Bool}
 use Rattle.std.specs.List.{list_all}
 use Rattle.std.specs.Option.{is_none}
 use Rattle.std.specs.Int.{is_in_range}
-use Rattle.og_value.specs.Bytes.{is_blank, is_letter, is_digit, is_word, begins, run, behind, truth_of}
+use Rattle.og_value.specs.Bytes.{is_blank, is_letter, is_digit, is_word, begins, run, behind}
 use Rattle.og_value.specs.Forms.{IsDigits, IsName, AreBlanks}
-use Rattle.og_value.specs.Scans.{Found, and_then, unless_truth, past_blanks, mark_here, mark_at, digits_at, word_at, name_at, minus_digits_at}
+use Rattle.og_value.specs.Scans.{and_then, unless_truth, past_blanks, mark_here, digits_at, word_at, name_at, minus_digits_at}
 use Rattle.std.proofs.lemmas.Option.{none-some}
-use Rattle.og_names.proofs.Truths.{both_true, both_first, both_second, either_first, either_second, either_true, same_value}
+use Rattle.og_names.proofs.Truths.{both_true, both_first, both_second, either_first, either_true, same_value}
 use Rattle.og_value.proofs.Runs.{run_joined}
 
 -- ---- tests of bytes

@@ -1,17 +1,18 @@
 -- The reader of forms passes the longest text of a value.
-use Rattle.std.proofs.Common.{◌≡◌, ℕ, zero, suc, ◌+◌, ◌-◌, ◌<◌, ◌≤◌, max, Bool, true, List, [], ◌∷◌, ◌++◌, length, take, Option, Some, None, inl, inr, refl, sym, ap, ◌∙◌, subst, arith, length-append, append_assoc}
+use Rattle.std.proofs.Common.{◌≡◌, ℕ, zero, suc, ◌-◌, ◌≤◌, max, Bool, true, List, ◌∷◌, ◌++◌, length, take, drop, Option, Some, None, inl, inr, sym, ap, ◌∙◌, subst, arith, length-append, append_assoc}
+use Rattle.std.proofs.lemmas.List.{length-drop}
 use Rattle.std.specs.List.{list_all}
 use Rattle.std.proofs.lemmas.Option.{none-some}
 use Rattle.og_names.proofs.Truths.{same_value}
 use Rattle.og_value.proofs.Runs.{take_front}
 use Rattle.og_value.specs.Bytes.{is_letter, is_digit, is_word, begins, run, behind, truth_of}
-use Rattle.og_value.specs.Forms.{Form, Forms, Fields, IsDigits, IsName, AreBlanks, Spells, is_number, is_negative, is_truth, is_name, is_alternative, are_none, are_items, are_parts, nesting, nesting_of_items, nesting_of_parts, HasForm, IsLongest}
-use Rattle.og_value.specs.Scans.{Found, Reader, and_then, rest_or, past_blanks, mark_at, digits_at, minus_digits_at, word_at, past_all, comma_by, part_by, closed_by, colon_by, past_choice, past_word, form_by, form_at, inner_form}
+use Rattle.og_value.specs.Forms.{Form, Spells, is_number, is_negative, is_truth, is_name, is_alternative, are_none, are_items, are_parts, nesting, nesting_of_items, nesting_of_parts, IsLongest, HasTextAt, HasNoText}
+use Rattle.og_value.specs.Scans.{Found, Reader, rest_or, past_blanks, mark_at, digits_at, part_by, colon_by, past_choice, past_word, form_at, inner_form}
 use Rattle.og_value.proofs.Steps.{form_is}
 use Rattle.og_value.proofs.Fronts.{digits_front, word_front, behind_le, begins_front, blanks_were}
 use Rattle.og_value.proofs.Spelt.{past_to, truth_letter, truth_all, follows_close, items_close, parts_close}
 use Rattle.og_value.proofs.Exact.{by_digits, by_minus, by_word, by_alternative, by_none, by_items, by_parts, closed_is, front_of, deeper, at_depth, no_digits_at_minus, exact, items_exact, parts_exact}
-use Rattle.og_value.proofs.Sound.{IsSpelt, then_was, mark_at_was, found_cases, sound}
+use Rattle.og_value.proofs.Sound.{then_was, mark_at_was, found_cases, sound}
 
 -- something is found, and what stands behind it is no longer than this
 pub record Reaches (found : Found (Unit {0})) (r : List ℕ) : Type 0 where
@@ -163,3 +164,19 @@ one_longest bytes a b x y =
     let below = x.longest b y.rest y.front y.form in
     let above = y.longest a x.rest x.front x.form in
     same_front a b x.rest y.rest (sym x.front ∙ y.front) (omega arith)
+
+-- ---- what the call answers
+
+pub text_at : (text bytes rest : List ℕ) (at : ℕ) → at ≤ length text → bytes ≡ drop at text → Some (tt, rest) ≡ form_at 64 bytes → HasTextAt text at (length text - length rest)
+text_at text bytes rest at le b e =
+    let passed = passed_is_longest (drop at text) rest (ap (form_at 64) (sym b) ∙ sym e) in
+    record {
+      text = passed.text;
+      longest = passed.longest;
+      ends = omega (arith, le, length-drop at text, ap length passed.front, length-append passed.text rest);
+    }
+
+pub no_text_at : (text bytes : List ℕ) (at : ℕ) → bytes ≡ drop at text → None ≡ form_at 64 bytes → HasNoText text at
+no_text_at text bytes at b none front rest split has =
+    let reached = longest has.spelt 64 has.nested rest in
+    none-some (tt, reached.rest) (none ∙ ap (form_at 64) (b ∙ split) ∙ reached.is)

@@ -1,6 +1,5 @@
 -- A text that has the form of a value is read as the value that the form means.
-use Rattle.std.proofs.Common.{◌≡◌, ℕ, zero, suc, ◌+◌, ◌-◌, ◌<◌, ◌≤◌, max, Bool, true, false, cond, not, ◌||◌, ◌==◌, List, [], ◌∷◌, ◌++◌, length, slice_get, Option, Some, None, option_map, inl, inr, refl, sym, ap, ◌∙◌, subst, arith, length-append, append_assoc}
-use Rattle.std.specs.Option.{is_none}
+use Rattle.std.proofs.Common.{◌≡◌, ℕ, zero, suc, ◌≤◌, max, Bool, true, false, cond, List, [], ◌∷◌, ◌++◌, length, slice_get, Option, Some, None, option_map, refl, sym, ap, ◌∙◌, arith, append_assoc}
 use Rattle.std.proofs.lemmas.Bool.{false≢true}
 use Rattle.og_types.specs.declared.TypeId.{TypeId}
 use Rattle.og_types.specs.declared.Part.{Part}
@@ -8,14 +7,14 @@ use Rattle.og_types.specs.declared.Sort.{Sort}
 use Rattle.og_types.specs.declared.Sort.TheVariants as Sorts
 use Rattle.og_types.specs.declared.Value.{Value}
 use Rattle.og_types.specs.declared.Value as Values
-use Rattle.og_value.specs.Bytes.{is_blank, is_letter, is_digit, is_word, begins, truth_of}
-use Rattle.og_value.specs.Forms.{Form, Number, Truth, Name, Alternative, Items, Parts, Forms, no_item, item, Fields, no_part, part, IsDigits, IsName, AreBlanks, AreApart, Spells, is_number, is_negative, is_truth, is_name, is_alternative, are_none, are_items, are_parts, ItemsGoOn, no_more_items, further_item, PartsGoOn, no_more_parts, further_part, nesting, nesting_of_items, nesting_of_parts}
-use Rattle.og_value.specs.Reads.{◌>>=◌, Names, Chosen, integer, as_number, as_truth, as_name, alternative_of, item_of, as_items, components_of, is_called, value_of, values_of, fields_of}
-use Rattle.og_value.specs.Scans.{Found, Reader, and_then, found_or, kept, past_blanks, mark_here, mark_at, digits_at, minus_digits_at, word_at, name_at, comma_by, each_by, component_by, components_by, sequence_by, items_by, entries_by, inside_by, braced_by, chosen_by, named_by, worded_by, sorted_by, value_by, value_at, inner_value}
+use Rattle.og_value.specs.Bytes.{is_letter, is_digit, begins, truth_of}
+use Rattle.og_value.specs.Forms.{Form, Number, Truth, Name, Alternative, Items, Parts, Forms, item, Fields, part, IsName, AreBlanks, AreApart, Spells, is_number, is_negative, is_truth, is_name, is_alternative, are_none, are_items, are_parts, ItemsGoOn, no_more_items, further_item, PartsGoOn, no_more_parts, further_part, nesting, nesting_of_items, nesting_of_parts}
+use Rattle.og_value.specs.Reads.{◌>>=◌, Names, Chosen, integer, as_number, as_name, alternative_of, as_items, is_called, value_of, values_of, fields_of}
+use Rattle.og_value.specs.Scans.{Found, Reader, and_then, kept, past_blanks, mark_here, mark_at, digits_at, minus_digits_at, word_at, name_at, comma_by, each_by, component_by, components_by, sequence_by, items_by, entries_by, inside_by, chosen_by, named_by, worded_by, sorted_by, value_by, value_at, inner_value}
 use Rattle.og_value.proofs.Steps.{value_is}
 use Rattle.og_value.proofs.Fronts.{EndsWord, digits_exactly, ends_digits, word_exactly, name_exactly, no_digits, no_word, no_minus, blanks_off, begins_front}
 use Rattle.og_value.proofs.Spelt.{starts, closes, spelt_starts, past_to, spelt_no_mark, truth_letter, truth_all, Follows, follows_close, closes_behind, items_close, parts_close}
-use Rattle.og_value.proofs.Exact.{stops, stopping, close_stops, ends_before, group4, brace_behind, comma_behind, no_comma, comma_none, comma_found, no_name, truth_no_name, no_word_at_brace, no_word_at_minus, no_digits_at_minus, ends_apart, group_none, group_items, group_parts, deeper, front_of, tail_le, tails_le}
+use Rattle.og_value.proofs.Exact.{stops, stopping, close_stops, ends_before, group4, brace_behind, comma_behind, no_comma, comma_none, comma_found, no_name, truth_no_name, no_word_at_brace, no_word_at_minus, no_digits_at_minus, ends_apart, group_none, group_items, group_parts, deeper, front_of, tail_le}
 
 -- ---- what there is
 

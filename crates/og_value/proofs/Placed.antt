@@ -1,17 +1,17 @@
 -- Names stand at their places.
-use Rattle.std.proofs.Common.{◌≡◌, ℕ, zero, suc, ◌+◌, Bool, true, false, cond, not, ◌&&◌, ◌||◌, ◌==◌, nat_eq, codes, get_or, List, [], ◌∷◌, map, slice_get, Option, Some, None, option_map, inl, inr, refl, sym, ap, ◌∙◌, subst, arith}
-use Rattle.std.specs.List.{list_all, list_any}
+use Rattle.std.proofs.Common.{◌≡◌, ℕ, zero, suc, Bool, true, false, cond, nat_eq, codes, get_or, List, [], ◌∷◌, map, slice_get, Option, Some, None, option_map, inl, inr, refl, sym, ap, ◌∙◌, subst, arith}
+use Rattle.std.specs.List.{list_any}
 use Rattle.std.proofs.lemmas.Bool.{false≢true}
-use Rattle.std.proofs.lemmas.Option.{none-some, slice_get-map}
+use Rattle.std.proofs.lemmas.Option.{none-some}
 use Rattle.og_names.specs.declared.NameId.{NameId}
 use Rattle.og_names.specs.Folding.{folded, place_of}
 use Rattle.og_names.specs.Table.{IsTable}
 use Rattle.og_names.proofs.Truths.{both_first, both_second, neither_first, neither_second, not_true, same_value}
 use Rattle.og_types.specs.declared.Part.{Part}
 use Rattle.og_types.specs.Table.{all_differ, same_name}
-use Rattle.og_value.specs.Bytes.{is_letter, is_word, begins, truth_of}
+use Rattle.og_value.specs.Bytes.{truth_of}
 use Rattle.og_value.specs.Forms.{IsName}
-use Rattle.og_value.specs.Reads.{◌>>=◌, Names, place_among, place_of_word, names_of, is_called, is_numbered}
+use Rattle.og_value.specs.Reads.{Names, place_among, names_of, is_called, is_numbered}
 use Rattle.og_value.specs.Shows.{text_or_none, name_text}
 use Rattle.og_value.specs.Named.{is_spelt, has_spelling}
 use Rattle.og_value.proofs.Spelt.{truth_word}

@@ -1,10 +1,6 @@
 -- The longest front of bytes that pass, and what stands behind it.
-use Rattle.std.proofs.Common.{◌≡◌, ℕ, zero, suc, ◌+◌, ◌-◌, ◌<◌, ◌≤◌, Bool, true, false, cond, not, ◌&&◌, List, [], ◌∷◌, ◌++◌, length, take, drop, refl, sym, ap, ◌∙◌, subst, arith, length-append, append_assoc}
-use Rattle.std.proofs.lemmas.Bool.{false≢true}
-use Rattle.std.proofs.lemmas.List.{take-append-le}
-use Rattle.std.specs.List.{list_all}
-use Rattle.og_value.specs.Bytes.{begins, run, behind}
-use Rattle.og_names.proofs.Truths.{both_true, both_first, both_second}
+use Rattle.std.proofs.Common.{◌≡◌, ℕ, ◌-◌, Bool, true, false, cond, List, [], ◌∷◌, ◌++◌, length, take, drop, refl, ap, ◌∙◌, subst, arith, length-append}
+use Rattle.og_value.specs.Bytes.{run, behind}
 
 -- ---- cutting where something stands behind
 

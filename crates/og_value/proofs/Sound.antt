@@ -1,13 +1,12 @@
 -- What a reader passes is a text of a value.
-use Rattle.std.proofs.Common.{◌≡◌, ◌⊎◌, ℕ, zero, suc, ◌+◌, ◌-◌, ◌<◌, ◌≤◌, max, Bool, true, false, cond, not, List, [], ◌∷◌, ◌++◌, length, Option, Some, None, inl, inr, refl, sym, ap, ◌∙◌, subst, arith, length-append, append_assoc}
-use Rattle.std.specs.List.{list_all}
+use Rattle.std.proofs.Common.{◌≡◌, ◌⊎◌, ℕ, zero, suc, ◌≤◌, Bool, true, false, cond, not, List, [], ◌∷◌, ◌++◌, length, Option, Some, None, inl, inr, refl, sym, ap, ◌∙◌, subst, arith, append_assoc}
 use Rattle.std.specs.Option.{is_none}
-use Rattle.std.proofs.lemmas.Bool.{false≢true, cases_Bool}
+use Rattle.std.proofs.lemmas.Bool.{false≢true}
 use Rattle.std.proofs.lemmas.Option.{none-some}
 use Rattle.og_names.proofs.Truths.{same_value}
-use Rattle.og_value.specs.Bytes.{is_blank, is_letter, is_digit, is_word, begins, truth_of}
-use Rattle.og_value.specs.Forms.{Form, Number, Truth, Name, Alternative, Items, Parts, Forms, no_item, item, Fields, no_part, part, IsDigits, IsName, AreBlanks, AreApart, Spells, is_number, is_negative, is_truth, is_name, is_alternative, are_none, are_items, are_parts, ItemsGoOn, no_more_items, further_item, PartsGoOn, no_more_parts, further_part, nesting, nesting_of_items, nesting_of_parts}
-use Rattle.og_value.specs.Scans.{Found, Reader, and_then, found_or, rest_or, unless_truth, past_blanks, mark_here, mark_at, digits_at, minus_digits_at, word_at, name_at, comma_by, past_by, past_all, part_by, closed_by, braces_by, open_by, colon_by, past_choice, past_word, form_by, form_at, inner_form}
+use Rattle.og_value.specs.Bytes.{is_word, begins, truth_of}
+use Rattle.og_value.specs.Forms.{Form, Number, Truth, Name, Alternative, Items, Parts, Forms, no_item, item, Fields, no_part, part, IsName, AreBlanks, AreApart, Spells, is_number, is_negative, is_truth, is_name, is_alternative, are_none, are_items, are_parts, ItemsGoOn, no_more_items, further_item, PartsGoOn, no_more_parts, further_part, nesting, nesting_of_items, nesting_of_parts}
+use Rattle.og_value.specs.Scans.{Found, Reader, and_then, found_or, rest_or, unless_truth, past_blanks, mark_here, mark_at, digits_at, minus_digits_at, word_at, name_at, comma_by, past_by, past_all, part_by, closed_by, braces_by, colon_by, past_choice, past_word, form_by, form_at}
 use Rattle.og_value.proofs.Spelt.{starts, spelt_starts}
 use Rattle.og_value.proofs.Fronts.{EndsWord, digits_were, IsWordAt, word_was, mark_was, blanks_were}
 

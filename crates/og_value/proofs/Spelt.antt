@@ -1,15 +1,15 @@
 -- How texts of values begin, and what may stand behind them.
-use Rattle.std.proofs.Common.{◌≡◌, ◌⊎◌, ℕ, zero, suc, ◌+◌, ◌<◌, ◌≤◌, Bool, true, false, cond, not, ◌&&◌, ◌||◌, ◌==◌, List, [], ◌∷◌, ◌++◌, length, bytes_eq, Option, Some, None, inl, inr, refl, sym, ap, ◌∙◌, subst, arith, append_assoc}
+use Rattle.std.proofs.Common.{◌≡◌, ◌⊎◌, ℕ, Bool, true, false, cond, ◌||◌, ◌==◌, List, [], ◌∷◌, ◌++◌, bytes_eq, Some, None, inl, inr, refl, sym, ap, ◌∙◌, subst}
 use Rattle.std.specs.Prelude.{codes}
 use Rattle.std.specs.List.{list_all}
 use Rattle.std.proofs.lemmas.Bool.{false≢true, eqb-true, cases_Bool}
 use Rattle.std.proofs.lemmas.Option.{none-some}
 use Rattle.std.proofs.lemmas.Slice.Eq.{bytes_eq-Decides}
 use Rattle.og_value.specs.Bytes.{is_blank, is_letter, is_digit, is_word, begins, truth_of}
-use Rattle.og_value.specs.Forms.{Form, Forms, Fields, IsDigits, IsName, AreBlanks, AreApart, Spells, is_number, is_negative, is_truth, is_name, is_alternative, are_none, are_items, are_parts, ItemsGoOn, no_more_items, further_item, PartsGoOn, no_more_parts, further_part}
+use Rattle.og_value.specs.Forms.{Form, Forms, Fields, AreBlanks, Spells, is_number, is_negative, is_truth, is_name, is_alternative, are_none, are_items, are_parts, ItemsGoOn, no_more_items, further_item, PartsGoOn, no_more_parts, further_part}
 use Rattle.og_value.specs.Scans.{past_blanks, mark_here, mark_at}
 use Rattle.og_value.proofs.Fronts.{EndsWord, never, blank_is, begins_front, blanks_off, blanks_stop, blanks_end_word, no_mark}
-use Rattle.og_names.proofs.Truths.{both_first, either_first, either_second, either_true}
+use Rattle.og_names.proofs.Truths.{either_first, either_second, either_true}
 
 -- a byte that a text of a value may begin with
 abbrev pub starts : ℕ → Bool

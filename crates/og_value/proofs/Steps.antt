@@ -1,9 +1,9 @@
 -- One step of a reader: a level of nesting, and a turn of a repetition.
-use Rattle.std.proofs.Common.{◌≡◌, ℕ, zero, suc, ◌-◌, ◌+◌, ◌≤◌, ◌<◌, List, length, slice_get, Option, Some, None, refl, sym, ap, ◌∙◌, arith}
+use Rattle.std.proofs.Common.{◌≡◌, ℕ, zero, suc, ◌-◌, ◌+◌, ◌≤◌, ◌<◌, List, slice_get, Some, None, refl, sym, ap, ◌∙◌, arith}
 use Rattle.og_types.specs.declared.TypeId.{TypeId}
 use Rattle.og_types.specs.declared.Sort.{Sort}
 use Rattle.og_value.specs.Reads.{Names}
-use Rattle.og_value.specs.Scans.{Found, Reader, value_at, value_by, inner_value, form_at, form_by, inner_form, past_all, past_by}
+use Rattle.og_value.specs.Scans.{Reader, value_at, value_by, inner_value, form_at, form_by, inner_form, past_all, past_by}
 
 pub form_is : (depth : ℕ) (bytes : List ℕ) → form_at depth bytes ≡ form_by (inner_form depth) bytes
 unfolding form_at

@@ -1,5 +1,5 @@
 -- What is found in front of bytes is what the longest text there reads as.
-use Rattle.std.proofs.Common.{◌≡◌, ℕ, ◌+◌, ◌-◌, ◌≤◌, List, [], ◌++◌, length, take, drop, slice_get, Option, Some, None, Err, inl, inr, refl, sym, ap, ◌∙◌, subst, arith, length-append}
+use Rattle.std.proofs.Common.{◌≡◌, ℕ, ◌+◌, ◌-◌, List, [], ◌++◌, length, drop, slice_get, Option, Some, None, Err, inl, inr, refl, sym, ap, ◌∙◌, subst}
 use Rattle.std.proofs.lemmas.List.{append-nil}
 use Rattle.std.proofs.lemmas.Option.{none-some}
 use Rattle.og_names.proofs.Truths.{same_value}
@@ -13,12 +13,12 @@ use Rattle.og_value.specs.declared.read.ReadValue.{ReadValue}
 use Rattle.og_value.specs.Answers.{Gives}
 use Rattle.og_value.specs.Forms.{IsLongest}
 use Rattle.og_value.specs.Reads.{Names, value_of, Reads, IsReadAt}
-use Rattle.og_value.specs.Scans.{Found, kept, before, sized, form_at, value_at, found_before, found_in}
+use Rattle.og_value.specs.Scans.{kept, before, sized, form_at, value_at, found_before, found_in}
 use Rattle.og_value.proofs.Runs.{before_is, front_len}
 use Rattle.og_value.proofs.Spelt.{follows_end}
-use Rattle.og_value.proofs.Sound.{found_cases, IsSpelt, sound}
+use Rattle.og_value.proofs.Sound.{found_cases}
 use Rattle.og_value.proofs.Means.{text_means}
-use Rattle.og_value.proofs.Longest.{Passed, passed_is_longest, none_passed, one_longest}
+use Rattle.og_value.proofs.Longest.{passed_is_longest, none_passed, one_longest}
 
 module _ (types : List Sort) (names : Names) (id : TypeId) where
   not_found : (bytes : List ℕ) → form_at 64 bytes ≡ None → found_in types names id bytes ≡ None

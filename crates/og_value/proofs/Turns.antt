@@ -5,7 +5,7 @@ use Rattle.og_types.specs.declared.TypeId.{TypeId}
 use Rattle.og_types.specs.declared.Part.{Part}
 use Rattle.og_types.specs.declared.Value.{Value}
 use Rattle.og_value.specs.Reads.{Names}
-use Rattle.og_value.specs.Scans.{Found, Reader, and_then, found_or, each_by, comma_by, component_by, components_by}
+use Rattle.og_value.specs.Scans.{Found, Reader, and_then, each_by, comma_by, component_by, components_by}
 use Rattle.og_value.specs.Answers.{with_front}
 
 regroup : {X : Type 0} (front : List X) (x : X) (found : Found (List X))

@@ -3,7 +3,7 @@
 -- stand freely between the parts of a text, and neither before the first nor behind the last. A number has any length and
 -- any zeros in front. Values nest at most 64 deep: each brace that is open counts, and each `:`. The form is this project's
 -- own, after the value notation of ASN.1 (X.680 clauses 17 to 29).
-use Rattle.std.specs.Prelude.{◌≡◌, ◌≤◌, ⊤, ℕ, suc, max, Bool, true, false, not, IsTrue, List, [], ◌∷◌, ◌++◌, length, Some, None}
+use Rattle.std.specs.Prelude.{◌≡◌, ◌≤◌, ⊤, ℕ, ◌+◌, suc, max, Bool, true, false, not, IsTrue, List, [], ◌∷◌, ◌++◌, length, drop, Some, None}
 use Rattle.std.specs.List.{list_all}
 use Rattle.og_value.specs.Bytes.{is_blank, is_letter, is_digit, is_word, begins, truth_of}
 
@@ -106,3 +106,13 @@ pub record IsLongest (bytes text : List ℕ) : Type 0 where
   pub front : bytes ≡ text ++ rest
   pub form : HasForm text
   pub longest : (other others : List ℕ) → bytes ≡ other ++ others → HasForm other → length other ≤ length text
+
+-- the longest text at a place ends at the next place
+pub record HasTextAt (bytes : List ℕ) (at next : ℕ) : Type 0 where
+  pub text : List ℕ
+  pub longest : IsLongest (drop at bytes) text
+  pub ends : next ≡ at + length text
+
+-- no text that stands at the place has the form of a value
+abbrev pub HasNoText : List ℕ → ℕ → Type 0
+HasNoText bytes at = (text rest : List ℕ) → drop at bytes ≡ text ++ rest → HasForm text → ⊥

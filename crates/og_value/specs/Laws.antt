@@ -8,6 +8,7 @@ use Rattle.og_types.specs.declared.Value.{Value}
 use Rattle.og_types.specs.Values.{is_in}
 use Rattle.og_types.specs.Table.{is_table}
 use Rattle.og_value.specs.Bytes.{is_blank, is_word, begins, behind}
+use Rattle.og_value.specs.Forms.{HasForm, IsLongest}
 use Rattle.og_value.specs.Reads.{Names, Reads, IsReadAt}
 use Rattle.og_value.specs.Scans.{found_in}
 use Rattle.og_value.specs.Shows.{shown}
@@ -34,6 +35,10 @@ ReadValuesAreInTheirTypes =
 pub record GoOnWithNone (bytes : List ℕ) : Type 0 where
   pub word : begins is_word bytes ≡ false
   pub colon : begins (λ b. b == 58) (behind is_blank bytes) ≡ false
+
+-- a text that has the form of a value is the longest where nothing goes on with it
+abbrev pub WholeTextsAreLongest : Type 0
+WholeTextsAreLongest = (text others : List ℕ) → HasForm text → GoOnWithNone others → IsLongest (text ++ others) text
 
 -- the text that a value shows gives the value where it is read
 abbrev pub ShownTextsReadBack : Type 0

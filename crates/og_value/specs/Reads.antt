@@ -2,7 +2,7 @@
 -- alternative go by their names; a sequence has its components by name, each once and in the order of the type, and a
 -- sequence of items has as many as its size allows. Names are compared in their folded form. The types are those of a
 -- subset of ASN.1 (X.680 clauses 18 to 20, 25, 26 and 29), the texts this project's own.
-use Rattle.std.specs.Prelude.{◌≡◌, ◌≤◌, ◌+◌, ℕ, suc, ℤ, pos, neg_ℤ, Bool, true, false, ◌&&◌, ◌==◌, IsTrue, List, [], ◌∷◌, length, map, drop, slice_get, nat_le, Option, Some, None, option_map, if◌then◌else◌}
+use Rattle.std.specs.Prelude.{◌≡◌, ◌≤◌, ◌+◌, ℕ, suc, ℤ, pos, neg_ℤ, Bool, false, ◌&&◌, ◌==◌, List, [], ◌∷◌, length, map, drop, slice_get, nat_le, Option, Some, None, option_map, if◌then◌else◌}
 use Rattle.og_names.specs.declared.NameId.{NameId}
 use Rattle.og_names.specs.Folding.{folded, place_of}
 use Rattle.og_types.specs.declared.TypeId.{TypeId}

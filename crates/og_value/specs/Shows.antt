@@ -2,7 +2,7 @@
 -- values or components, `: ` behind the name of an alternative, and one blank behind that of a component. The types are those
 -- of a subset of ASN.1 (X.680 clauses 18 to 20, 25, 26 and 29), the texts this project's own. A type refers to smaller
 -- numbers only, so the search that starts at type n goes down at most n + 1 times.
-use Rattle.std.specs.Prelude.{ℕ, zero, suc, ◌+◌, ℤ, Bool, List, [], ◌∷◌, ◌++◌, map, codes, slice_get, Option, Some, None, if◌then◌else◌}
+use Rattle.std.specs.Prelude.{ℕ, zero, suc, Bool, List, [], ◌∷◌, ◌++◌, map, codes, slice_get, Option, Some, None, if◌then◌else◌}
 use Rattle.std.specs.Fmt.{signed_decimal}
 use Rattle.og_names.specs.declared.NameId.{NameId}
 use Rattle.og_types.specs.declared.TypeId.{TypeId}

@@ -16,7 +16,7 @@ mod write;
 
 pub use membership::fits;
 use og_names::NoMemory;
-pub use read::{ReadValue, read_value};
+pub use read::{ReadValue, read_value, value_end};
 use std::alloc::{AllocError, AllocFailed};
 pub use write::write_value;
 

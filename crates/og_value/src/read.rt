@@ -1,8 +1,9 @@
 //! The value that the text at a place reads as.
-ghost use Rattle.std.specs.Prelude.{◌≡◌, ◌≤◌, ◌+◌, ℕ, length, IfOk, IsTrue, IsErrOf};
+ghost use Rattle.std.specs.Prelude.{◌≡◌, ◌≤◌, ◌+◌, ℕ, length, MatchOption, IfSome, IfOk, IsTrue, IsErrOf};
 ghost use Rattle.og_types.specs.declared.Value.{Value};
 ghost use Rattle.og_types.specs.Values.{is_in};
 ghost use Rattle.og_value.specs.declared.ValueError.TheVariants.{Bad};
+ghost use Rattle.og_value.specs.Forms.{HasTextAt, HasNoText};
 ghost use Rattle.og_value.specs.Reads.{IsReadAt};
 ghost use Rattle.og_value.specs.Scans.{found_in};
 ghost use Rattle.og_value.specs.Answers.{Gives};
@@ -22,6 +23,20 @@ const DEEPEST: usize = 64;
 pub struct ReadValue {
     pub value: Value,
     pub next: usize,
+}
+
+/// The place behind the longest text of a value at a place, of whatever type, where there is one.
+#[tactic(auto, using(crate::proofs::Longest::rest_within, crate::proofs::Longest::text_at, crate::proofs::Longest::no_text_at))]
+pub fn value_end(text: &[u8], at: usize) -> Option<usize>
+    requires { at ≤ length text.now }
+    ensures end { MatchOption result (HasNoText text.now at) (λ next. HasTextAt text.now at next) }
+    ensures within { IfSome result (λ next. next ≤ length text.now) }
+{
+    let (_, bytes) = text.split_at(at);
+    match form_at(DEEPEST, bytes) {
+        None => None,
+        Some(rest) => Some(text.len() - rest.len()),
+    }
 }
 
 /// Reads the longest text of a value at a place, as a value of the type. A text that begins with a blank is none.

@@ -1,4 +1,3 @@
-use Rattle.std.proofs.Common.{◌≡◌}
 use Rattle.og_value.proofs.Within.{fits_more}
 use Rattle.og_value.proofs.membership.+fits.Goals as goal
 

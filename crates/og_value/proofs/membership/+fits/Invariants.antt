@@ -1,4 +1,4 @@
-use Rattle.std.proofs.Common.{◌≡◌, ◌≤◌, ◌+◌, ◌*◌, length, drop}
+use Rattle.std.proofs.Common.{◌+◌, ◌*◌}
 use Rattle.std.specs.List.{list_all}
 use Rattle.og_names.proofs.Loops.{Left}
 use Rattle.og_types.specs.Values.{in_within, in_parts}

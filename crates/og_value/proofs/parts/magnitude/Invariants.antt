@@ -1,4 +1,3 @@
-use Rattle.std.proofs.Common.{◌≤◌}
 use Rattle.og_names.proofs.Loops.{Left}
 use Rattle.og_value.specs.Bytes.{number_from, number_of}
 use Rattle.og_value.proofs.parts.magnitude.Given as goal

@@ -1,4 +1,3 @@
-use Rattle.std.proofs.Common.{◌≡◌}
 use Rattle.og_value.proofs.Written.{items_more, items_end, parts_more, parts_none, parts_end}
 use Rattle.og_value.proofs.write.+writing.Goals as goal
 
