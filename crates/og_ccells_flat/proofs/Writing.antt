@@ -195,6 +195,7 @@ clear_all old xs at k end width le place upper past e =
   where
     none_left : end < at → overwritten at (zeros (k - at)) old ≡ overwritten at (zeros width) old
     none_left none = overwritten_past (zeros (k - at)) old at (omega (arith, place, none)) ∙ sym (overwritten_past (zeros width) old at (omega (arith, place, none)))
+
     some_left : k ≤ end → overwritten at (zeros (k - at)) old ≡ overwritten at (zeros width) old
     some_left top =
         elim (cases_lt (at + width) (length old)) [

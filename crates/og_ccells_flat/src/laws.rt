@@ -4,7 +4,6 @@ ghost use Rattle.std.specs.Prelude.{◌≡◌, ◌+◌, ◌≤◌, ℕ, ℤ, Lis
 ghost use Rattle.og_ir.specs.Cells.{Cells, part_at, put_at, count};
 ghost use Rattle.og_ccells_flat.specs.Vectors.{filled, numbers_before_path, numbers_of, put_cells, SameShape};
 
-
 /// A tree of a shape, whose numbers stand in a vector from a place on: a part of it is the part of the shape, from as many
 /// places further on as there are numbers before it. Another part of the same shape in its place is its numbers there.
 pub fn parts_are_ranges()
