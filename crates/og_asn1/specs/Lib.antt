@@ -4,3 +4,8 @@ pub mod Trees
 pub mod Grammar
 pub mod Limits
 pub mod Flattening
+pub mod Scope
+pub mod Following
+pub mod Violations
+pub mod View
+pub mod ViewExamples

@@ -7,6 +7,7 @@ pub mod grammar;
 pub mod kind;
 mod left;
 mod many;
+pub mod laws;
 mod module;
 mod parse;
 pub mod part;

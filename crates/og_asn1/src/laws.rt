@@ -1,0 +1,22 @@
+//! Worked examples, computed from the definitions. Each function does nothing, and its contract says what the definitions give.
+ghost use Rattle.og_asn1.specs.ViewExamples.{FreeNumbersInOrder, NumbersBelowZeroAndOpenOnes, RangesIntersect, ConstantsAreFollowed, TypesComeByDepth, OpaqueTypesAreFound, NamesWithoutDeclaration, UnknownNames, NamesThatAreNotLookedFor, NamesTwice, NamesOfDifferentLists, ImportsAreChecked};
+
+/// Views of modules.
+pub fn views()
+    ensures enumerators { FreeNumbersInOrder }
+    ensures below_zero { NumbersBelowZeroAndOpenOnes }
+    ensures ranges { RangesIntersect }
+    ensures constants { ConstantsAreFollowed }
+    ensures depth { TypesComeByDepth }
+    ensures opaque { OpaqueTypesAreFound }
+    ensures without_declaration { NamesWithoutDeclaration }
+{}
+
+/// Violations of the rules on names.
+pub fn violations()
+    ensures unknown { UnknownNames }
+    ensures not_looked_for { NamesThatAreNotLookedFor }
+    ensures twice { NamesTwice }
+    ensures apart { NamesOfDifferentLists }
+    ensures imports { ImportsAreChecked }
+{}
