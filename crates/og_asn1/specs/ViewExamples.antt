@@ -155,76 +155,76 @@ Views assignments view = (first_violation (one_module assignments) ≡ None) × 
 abbrev pub FreeNumbersInOrder : Type 0
 FreeNumbersInOrder =
     Views (declares 1 (codes "T") (kind (Enumerated (enumerator_with 2 (codes "a") false 1 ∷ enumerator 3 (codes "b") ∷ enumerator_with 4 (codes "c") false 0 ∷ enumerator 5 (codes "d") ∷ []))) ∷ [])
-        (record { types = sort.Enumerated (name_id 1 ∷ name_id 2 ∷ name_id 3 ∷ name_id 4 ∷ []) (pos 1 ∷ pos 2 ∷ pos 0 ∷ pos 3 ∷ []) ∷ []; named = type_is 1 0 0 ∷ []; constants = [] })
+    (record { types = sort.Enumerated (name_id 1 ∷ name_id 2 ∷ name_id 3 ∷ name_id 4 ∷ []) (pos 1 ∷ pos 2 ∷ pos 0 ∷ pos 3 ∷ []) ∷ []; named = type_is 1 0 0 ∷ []; constants = [] })
 
 -- ENUMERATED { a, b (-1), c (1), d }: 0, -1, 1, 2; one with the mark `...` is opaque, and its names are numbered all the same
 abbrev pub NumbersBelowZeroAndOpenOnes : Type 0
 NumbersBelowZeroAndOpenOnes =
     Views (declares 1 (codes "T") (kind (Enumerated (enumerator 2 (codes "a") ∷ enumerator_with 3 (codes "b") true 1 ∷ enumerator_with 4 (codes "c") false 1 ∷ enumerator 5 (codes "d") ∷ [])))
-        ∷ declares 6 (codes "U") (kind (Enumerated (enumerator 7 (codes "e") ∷ item.Extension (at 0) ∷ []))) ∷ [])
-        (record {
-            types = sort.Enumerated (name_id 1 ∷ name_id 2 ∷ name_id 3 ∷ name_id 4 ∷ []) (pos 0 ∷ negsuc 0 ∷ pos 1 ∷ pos 2 ∷ []) ∷ sort.Opaque ∷ [];
-            named = type_is 1 0 0 ∷ type_is 6 5 1 ∷ [];
-            constants = [];
-        })
+    ∷ declares 6 (codes "U") (kind (Enumerated (enumerator 7 (codes "e") ∷ item.Extension (at 0) ∷ []))) ∷ [])
+    (record {
+      types = sort.Enumerated (name_id 1 ∷ name_id 2 ∷ name_id 3 ∷ name_id 4 ∷ []) (pos 0 ∷ negsuc 0 ∷ pos 1 ∷ pos 2 ∷ []) ∷ sort.Opaque ∷ [];
+      named = type_is 1 0 0 ∷ type_is 6 5 1 ∷ [];
+      constants = [];
+    })
 
 -- T ::= INTEGER (0 .. 9)   U ::= T (5 .. 20)   V ::= T (10 .. 20)   W ::= U   X ::= INTEGER   Y ::= T (-1 .. 9223372036854775808)
 abbrev pub RangesIntersect : Type 0
 RangesIntersect =
     Views (declares 1 (codes "T") (integer (from_to 0 9)) ∷ declares 2 (codes "U") (narrowed 3 (codes "T") (from_to 5 20)) ∷ declares 4 (codes "V") (narrowed 5 (codes "T") (from_to 10 20))
-        ∷ declares 6 (codes "W") (ref 7 (codes "U")) ∷ declares 8 (codes "X") any_integer ∷ declares 9 (codes "Y") (narrowed 10 (codes "t") (minus ∷ from_to 1 9223372036854775808)) ∷ [])
-        (record {
-            types = sort.Int (pos 0) (pos 9) ∷ sort.Int (pos 5) (pos 9) ∷ sort.Int (pos 0) (pos 9) ∷ sort.Opaque ∷ sort.Opaque ∷ [];
-            named = type_is 1 0 0 ∷ type_is 2 1 1 ∷ type_is 4 2 3 ∷ type_is 6 3 1 ∷ type_is 8 4 4 ∷ type_is 9 5 2 ∷ [];
-            constants = [];
-        })
+    ∷ declares 6 (codes "W") (ref 7 (codes "U")) ∷ declares 8 (codes "X") any_integer ∷ declares 9 (codes "Y") (narrowed 10 (codes "t") (minus ∷ from_to 1 9223372036854775808)) ∷ [])
+    (record {
+      types = sort.Int (pos 0) (pos 9) ∷ sort.Int (pos 5) (pos 9) ∷ sort.Int (pos 0) (pos 9) ∷ sort.Opaque ∷ sort.Opaque ∷ [];
+      named = type_is 1 0 0 ∷ type_is 2 1 1 ∷ type_is 4 2 3 ∷ type_is 6 3 1 ∷ type_is 8 4 4 ∷ type_is 9 5 2 ∷ [];
+      constants = [];
+    })
 
 -- n T ::= 12   m INTEGER ::= n   c INTEGER ::= d   d INTEGER ::= c   b BOOLEAN ::= 1   T ::= INTEGER (0 .. n)   U ::= INTEGER (0 .. c)
 abbrev pub ConstantsAreFollowed : Type 0
 ConstantsAreFollowed =
     Views (constant 1 (codes "n") (ref 2 (codes "T")) (value_number 12) ∷ constant 3 (codes "m") any_integer (value_name 4 (codes "n"))
-        ∷ constant 5 (codes "c") any_integer (value_name 6 (codes "d")) ∷ constant 7 (codes "d") any_integer (value_name 8 (codes "c")) ∷ constant 9 (codes "b") truth (value_number 1)
-        ∷ declares 10 (codes "T") (integer (number 0 ∷ dots ∷ word 11 (codes "n") ∷ [])) ∷ declares 12 (codes "U") (integer (number 0 ∷ dots ∷ word 13 (codes "c") ∷ [])) ∷ [])
-        (record {
-            types = sort.Bool ∷ sort.Int (pos 0) (pos 12) ∷ sort.Opaque ∷ sort.Opaque ∷ sort.Opaque ∷ sort.Opaque ∷ [];
-            named = type_is 10 5 1 ∷ type_is 12 6 5 ∷ [];
-            constants = number_is 1 0 12 ∷ number_is 3 1 12 ∷ no_number 5 2 ∷ no_number 7 3 ∷ no_number 9 4 ∷ [];
-        })
+    ∷ constant 5 (codes "c") any_integer (value_name 6 (codes "d")) ∷ constant 7 (codes "d") any_integer (value_name 8 (codes "c")) ∷ constant 9 (codes "b") truth (value_number 1)
+    ∷ declares 10 (codes "T") (integer (number 0 ∷ dots ∷ word 11 (codes "n") ∷ [])) ∷ declares 12 (codes "U") (integer (number 0 ∷ dots ∷ word 13 (codes "c") ∷ [])) ∷ [])
+    (record {
+      types = sort.Bool ∷ sort.Int (pos 0) (pos 12) ∷ sort.Opaque ∷ sort.Opaque ∷ sort.Opaque ∷ sort.Opaque ∷ [];
+      named = type_is 10 5 1 ∷ type_is 12 6 5 ∷ [];
+      constants = number_is 1 0 12 ∷ number_is 3 1 12 ∷ no_number 5 2 ∷ no_number 7 3 ∷ no_number 9 4 ∷ [];
+    })
 
 -- S ::= SEQUENCE { x P, y BOOLEAN }   P ::= SEQUENCE (SIZE (0 .. 3)) OF INTEGER (1 .. 2)   C ::= CHOICE { x S, z P }
 abbrev pub TypesComeByDepth : Type 0
 TypesComeByDepth =
     Views (declares 1 (codes "S") (kind (Sequence (part 2 (codes "x") (ref 3 (codes "P")) ∷ part 4 (codes "y") truth ∷ [])))
-        ∷ declares 5 (codes "P") (items (from_to 0 3) (integer (from_to 1 2)))
-        ∷ declares 6 (codes "C") (kind (Choice (part 7 (codes "x") (ref 8 (codes "S")) ∷ part 9 (codes "z") (ref 10 (codes "P")) ∷ []))) ∷ [])
-        (record {
-            types = sort.Bool ∷ sort.Int (pos 1) (pos 2) ∷ sort.SeqOf 0 3 (id 1) ∷ sort.Sequence (part_is 1 2 ∷ part_is 2 0 ∷ []) ∷ sort.Choice (part_is 1 3 ∷ part_is 5 2 ∷ []) ∷ [];
-            named = type_is 1 0 3 ∷ type_is 5 3 2 ∷ type_is 6 4 4 ∷ [];
-            constants = [];
-        })
+    ∷ declares 5 (codes "P") (items (from_to 0 3) (integer (from_to 1 2)))
+    ∷ declares 6 (codes "C") (kind (Choice (part 7 (codes "x") (ref 8 (codes "S")) ∷ part 9 (codes "z") (ref 10 (codes "P")) ∷ []))) ∷ [])
+    (record {
+      types = sort.Bool ∷ sort.Int (pos 1) (pos 2) ∷ sort.SeqOf 0 3 (id 1) ∷ sort.Sequence (part_is 1 2 ∷ part_is 2 0 ∷ []) ∷ sort.Choice (part_is 1 3 ∷ part_is 5 2 ∷ []) ∷ [];
+      named = type_is 1 0 3 ∷ type_is 5 3 2 ∷ type_is 6 4 4 ∷ [];
+      constants = [];
+    })
 
 -- A ::= SEQUENCE { a A }   B ::= C   C ::= B   R ::= REAL   Q ::= SEQUENCE { r R }   O ::= SEQUENCE { b BOOLEAN OPTIONAL }
 abbrev pub OpaqueTypesAreFound : Type 0
 OpaqueTypesAreFound =
     Views (declares 1 (codes "A") (kind (Sequence (part 2 (codes "a") (ref 3 (codes "A")) ∷ []))) ∷ declares 4 (codes "B") (ref 5 (codes "C")) ∷ declares 6 (codes "C") (ref 7 (codes "B"))
-        ∷ declares 8 (codes "R") real ∷ declares 9 (codes "Q") (kind (Sequence (part 10 (codes "r") (ref 11 (codes "R")) ∷ [])))
-        ∷ declares 12 (codes "O") (kind (Sequence (optional 13 (codes "b") truth ∷ []))) ∷ [])
-        (record {
-            types = sort.Bool ∷ sort.Opaque ∷ sort.Opaque ∷ sort.Opaque ∷ sort.Opaque ∷ sort.Opaque ∷ sort.Opaque ∷ [];
-            named = type_is 1 0 1 ∷ type_is 4 1 2 ∷ type_is 6 2 3 ∷ type_is 8 3 4 ∷ type_is 9 4 5 ∷ type_is 12 5 6 ∷ [];
-            constants = [];
-        })
+    ∷ declares 8 (codes "R") real ∷ declares 9 (codes "Q") (kind (Sequence (part 10 (codes "r") (ref 11 (codes "R")) ∷ [])))
+    ∷ declares 12 (codes "O") (kind (Sequence (optional 13 (codes "b") truth ∷ []))) ∷ [])
+    (record {
+      types = sort.Bool ∷ sort.Opaque ∷ sort.Opaque ∷ sort.Opaque ∷ sort.Opaque ∷ sort.Opaque ∷ sort.Opaque ∷ [];
+      named = type_is 1 0 1 ∷ type_is 4 1 2 ∷ type_is 6 2 3 ∷ type_is 8 3 4 ∷ type_is 9 4 5 ∷ type_is 12 5 6 ∷ [];
+      constants = [];
+    })
 
 -- B ::= Boolean   I ::= Integer   V ::= UTF8String   N ::= Integer (0 .. 9)   E ::= SEQUENCE { }
 abbrev pub NamesWithoutDeclaration : Type 0
 NamesWithoutDeclaration =
     Views (declares 1 (codes "B") (ref 2 (codes "Boolean")) ∷ declares 3 (codes "I") (ref 4 (codes "Integer")) ∷ declares 5 (codes "V") (ref 6 (codes "UTF8String"))
-        ∷ declares 7 (codes "N") (narrowed 8 (codes "Integer") (from_to 0 9)) ∷ declares 9 (codes "E") (kind (Sequence [])) ∷ [])
-        (record {
-            types = sort.Bool ∷ sort.Sequence [] ∷ sort.Opaque ∷ sort.Opaque ∷ sort.Opaque ∷ [];
-            named = type_is 1 0 0 ∷ type_is 3 1 2 ∷ type_is 5 2 3 ∷ type_is 7 3 4 ∷ type_is 9 4 1 ∷ [];
-            constants = [];
-        })
+    ∷ declares 7 (codes "N") (narrowed 8 (codes "Integer") (from_to 0 9)) ∷ declares 9 (codes "E") (kind (Sequence [])) ∷ [])
+    (record {
+      types = sort.Bool ∷ sort.Sequence [] ∷ sort.Opaque ∷ sort.Opaque ∷ sort.Opaque ∷ [];
+      named = type_is 1 0 0 ∷ type_is 3 1 2 ∷ type_is 5 2 3 ∷ type_is 7 3 4 ∷ type_is 9 4 1 ∷ [];
+      constants = [];
+    })
 
 -- ---- violations
 
@@ -271,20 +271,20 @@ NamesOfDifferentLists =
 abbrev imports : List SymbolTree → Name → List ModuleTree
 imports symbols from =
     record {
-        name = name 1 (codes "M");
-        object = None;
-        tagging = None;
-        exports = None;
-        imports = Some (record { place = at 0; imports = record { symbols = symbols; «module» = from; object = None } ∷ [] });
-        assignments = [];
+      name = name 1 (codes "M");
+      object = None;
+      tagging = None;
+      exports = None;
+      imports = Some (record { place = at 0; imports = record { symbols = symbols; «module» = from; object = None } ∷ [] });
+      assignments = [];
     }
     ∷ record {
-        name = name 20 (codes "N");
-        object = None;
-        tagging = None;
-        exports = None;
-        imports = None;
-        assignments = declares 21 (codes "T") truth ∷ constant 22 (codes "n") any_integer (value_number 0) ∷ [];
+      name = name 20 (codes "N");
+      object = None;
+      tagging = None;
+      exports = None;
+      imports = None;
+      assignments = declares 21 (codes "T") truth ∷ constant 22 (codes "n") any_integer (value_number 0) ∷ [];
     } ∷ []
 
 abbrev pub ImportsAreChecked : Type 0
