@@ -1,5 +1,5 @@
 -- What is read as a declaration, an action, a transition or a procedure is one.
-use Rattle.std.proofs.Common.{◌≡◌, ℕ, zero, suc, ◌≤◌, ◌⊎◌, inl, inr, true, false, cond, List, [], ◌∷◌, ◌++◌, Option, Some, None, refl, sym, ap, subst, ◌∙◌, arith}
+use Rattle.std.proofs.Common.{◌≡◌, ℕ, zero, suc, ◌≤◌, Bool, true, false, cond, List, [], ◌∷◌, ◌++◌, Option, Some, None, refl, sym, ap, subst, ◌∙◌, arith}
 use Rattle.og_grammar.specs.declared.Nesting.{Nesting}
 use Rattle.og_grammar.specs.declared.Symbol.{Symbol}
 use Rattle.og_grammar.specs.declared.Symbol.TheVariants.{Token, Part, Scope, Maybe, Many, NotBefore}
@@ -42,7 +42,7 @@ use Rattle.og_reading.specs.Reading.{Rest, Take, behind, after, place_in, name_i
 use Rattle.og_reading.specs.Fronts.{Text, Stands, Reserved, Sign, Named, Numeral, Quoted, Word, Passed, nothing, ◌▸◌, optional, each, separated_by, separated, perhaps_separated, in_brackets, IsNotBefore}
 use Rattle.og_reading.proofs.Deriving.{IsPart}
 use Rattle.og_reading.proofs.ReadParts.{Reads, rule, Both, Before, Grown, reads_word, reads_mark, reads_name, reads_number, reads_text, reads_then, reads_as, reads_not, reads_nothing, reads_part, reads_deeper, reads_none, reads_option, reads_maybe, reads_onto, reads_more, reads_all}
-use Rattle.og_reading.proofs.Lists.{reads_list, reads_in_brackets, reads_or_none}
+use Rattle.og_reading.proofs.Lists.{reads_each, reads_list, reads_in_brackets, reads_or_none}
 use Rattle.og_parse_expr.specs.Reading.{expr_at, var_at, relation_sign_at}
 use Rattle.og_parse_expr.specs.Grammar.{IsExpr, IsVar, IsRelation}
 use Rattle.og_parse_expr.proofs.Rules.{HasExpressions, has_all}
@@ -55,6 +55,10 @@ use Rattle.og_parse_body.specs.Grammar.{IsHname, IsEnd, AreNames, IsClosing, IsI
 -- the table of SDL/PR has the productions of expressions
 pub sdl_has : HasExpressions SDL
 sdl_has = has_all SDL (refl, (refl, (refl, (refl, (refl, (refl, (refl, (refl, (refl, (refl, (refl, (refl, (refl, (refl, (refl, (refl, (refl, (refl, (refl, (refl, (refl, (refl, (refl, (refl, (refl, (refl, (refl, (refl, (refl, (refl, (refl, (refl, (refl, (refl, (refl, tt)))))))))))))))))))))))))))))))))))
+
+-- a name is a token of the first kind
+pub name_kind : (name : Name) → kind_of (token.Name name.word) ≡ 0
+name_kind name = ap (λ (b : Bool). cond b 0 255) name.spelling
 
 module _ (n : ℕ) where
   -- ---- names and ends
@@ -261,3 +265,190 @@ module _ (n : ℕ) where
       (rule (reads_as (λ x. (x.0, kind.Join x.1)) (λ x. IsKind x.1 x.0) (λ x ts us b. b) (reads_then (reads_word word.Join) (λ p. reads_name)))
       ∷ rule (reads_as (λ x. (x.0, kind.Return x.1)) (λ x. IsKind x.1 x.0) (λ x ts us b. b) (reads_then (reads_word word.Return) (λ p. reads_maybe results)))
       ∷ rule (reads_as (λ p. (p, kind.Stop)) (λ x. IsKind x.1 x.0) (λ x ts us b. b) (reads_word word.Stop)) ∷ []) refl
+
+  -- no step in front: nothing is read
+  no_step_read : Reads SDL n (Part 88 ∷ []) (λ rest. (tt, after rest)) (λ (x : Unit {0}). NoStep)
+  no_step_read =
+      reads_part 88 (Part 88) refl
+      (rule (reads_as (λ (x : Unit {0}). x) (λ (x : Unit {0}). NoStep) (λ x ts us b. (
+        b.1.1.1.1.1.1.1.1.1,
+        record {
+          label = λ name. not_kind (token.Name name.word) ts (subst (λ (k : ℕ). IsNotFirst k (kinds_of ts)) (sym (name_kind name)) b.0);
+          task = not_kind (token.Keyword word.Task) ts b.1.0;
+          output = not_kind (token.Keyword word.Output) ts b.1.1.0;
+          call = not_kind (token.Keyword word.Call) ts b.1.1.1.0;
+          decision = not_kind (token.Keyword word.Decision) ts b.1.1.1.1.0;
+          nextstate = not_kind (token.Keyword word.Nextstate) ts b.1.1.1.1.1.0;
+          join = not_kind (token.Keyword word.Join) ts b.1.1.1.1.1.1.0;
+          «return» = not_kind (token.Keyword word.Return) ts b.1.1.1.1.1.1.1.0;
+          stop = not_kind (token.Keyword word.Stop) ts b.1.1.1.1.1.1.1.1.0;
+        },
+      ))
+      (reads_not 0 (reads_not 75 (reads_not 58 (reads_not 28 (reads_not 34 (reads_not 54 (reads_not 52 (reads_not 65 (reads_not 72 (reads_nothing tt (λ (x : Unit {0}). nothing) (λ ts. refl))))))))))))) [] refl
+
+-- ---- transitions
+
+-- a step, or the terminator
+abbrev IsStepText : StepText → Text
+IsStepText (text.Step s) ts us = IsStep s ts us
+IsStepText (text.Terminator t) ts us = IsTerminator t ts us
+
+-- behind a label, or where there is none
+abbrev Labelled : Option Name → StepText → Text
+Labelled label x ts us = (start : List Spanned) → optional IsLabel label start ts → IsStepText x start us
+
+action_in_front : (a : ActionTree) (place : Place) (ts us : List Spanned) → IsAction a place ts us → BeginsNoStep ts → ⊥
+action_in_front a place ts us (informal t p r q) none = in_front _ place ts _ r none.task
+action_in_front a place ts us (assignments xs p r q) none = in_front _ place ts _ r none.task
+action_in_front a place ts us (outputs xs p r q) none = in_front _ place ts _ r none.output
+action_in_front a place ts us (called c p r q) none = in_front _ place ts _ r none.call
+action_in_front a place ts us (decided d p r q) none = in_front _ place ts _ r none.decision
+
+kind_in_front : (k : TerminatorKind) (place : Place) (ts us : List Spanned) → IsKind k place ts us → BeginsNoStep ts → ⊥
+kind_in_front (kind.Dash dash) place ts us i none = in_front _ place ts i.0 i.1 none.nextstate
+kind_in_front (kind.History dash) place ts us i none = in_front _ place ts i.0 i.1 none.nextstate
+kind_in_front (kind.Next state via) place ts us i none = in_front _ place ts i.0 i.1 none.nextstate
+kind_in_front (kind.Join label) place ts us i none = in_front _ place ts i.0 i.1 none.join
+kind_in_front (kind.Return result) place ts us i none = in_front _ place ts i.0 i.1 none.«return»
+kind_in_front kind.Stop place ts us i none = in_front _ place ts us i none.stop
+
+-- a text behind a label, or without one, is not in front
+labelled_in_front : (label : Option Name) (ts us : List Spanned) → optional IsLabel label ts us → BeginsNoStep ts → (BeginsNoStep us → ⊥) → ⊥
+labelled_in_front None ts us e none go = go (subst BeginsNoStep e none)
+labelled_in_front (Some name) ts us l none go = in_front _ name.place ts l.0 l.1 (none.label name)
+
+step_in_front : (x : StepText) (ts us : List Spanned) → IsStepText x ts us → BeginsNoStep ts → ⊥
+step_in_front (text.Step s) ts us (step label place a e {us = mid} {vs = last} l i z) none = labelled_in_front label ts mid l none (action_in_front a place mid last i)
+step_in_front (text.Terminator t) ts us i none = labelled_in_front t.label ts i.0 i.1 none (kind_in_front t.kind t.place i.0 i.2.0 i.2.1)
+
+steps_grown : (ss : List StepTree) (s : StepTree) (ts us vs : List Spanned) → AreSteps ss ts us → IsStep s us vs → AreSteps (ss ++ s ∷ []) ts vs
+steps_grown [] s ts us vs no_step i = more_steps i no_step
+steps_grown (x ∷ ss) s ts us vs (more_steps {us = mid} first others) i = more_steps first (steps_grown ss s mid us vs others i)
+
+-- the steps, and then the terminator where it was met, cover these tokens
+abbrev Covers : List Spanned → SoFar → List Spanned → Type 0
+Covers start t ts = (mid : List Spanned) × AreSteps t.0 start mid × optional IsTerminator t.1 mid ts
+
+covers_more : (start : List Spanned) (t : SoFar) (x : StepText) (ts us : List Spanned) → IsStepText x ts us → Covers start t ts → Covers start (with_step t x) us
+covers_more start (steps, None) (text.Step s) ts us i c = (us, steps_grown steps s start ts us (subst (AreSteps steps start) c.2 c.1) i, refl)
+covers_more start (steps, None) (text.Terminator e) ts us i c = (ts, subst (AreSteps steps start) c.2 c.1, i)
+covers_more start (steps, Some t) x ts us i c = absurd (step_in_front x ts us i (subst BeginsNoStep c.2.2.2.2.0 c.2.2.2.2.1))
+
+module _ (n : ℕ) (inner : Take TransitionTree) (inners : Reads SDL n (Part 85 ∷ []) inner IsTransition) where
+  -- ---- decisions
+
+  branches : Reads SDL n (Part 92 ∷ []) (branch_at inner) IsBranch
+  unfolding branch_at
+  branches =
+      reads_part 92 (Part 92) refl
+      (rule (reads_as (λ x. roll-BranchTree (record { place = x.0; answers = x.1.0; transition = x.1.1.1.1 })) IsBranch
+      (λ x ts us b. branch x.0 x.1.0 x.1.1.1.1 b.1 b.2.1 (x.1.1.0, b.2.2.1) (x.1.1.1.0, b.2.2.2.1) b.2.2.2.2)
+      (reads_then (reads_mark mark.LeftParenthesis) (λ p.
+      (reads_then (reads_list mark.Comma 74 75 refl refl (answers n) (answers n) (Part 74) refl) (λ xs.
+      (reads_then (reads_mark mark.RightParenthesis) (λ q. reads_then (reads_mark mark.Colon) (λ r. inners))))))))) [] refl
+
+  otherwises : Reads SDL n (Part 93 ∷ []) (otherwise_at inner) (λ o. IsOtherwise (Some o))
+  unfolding otherwise_at
+  otherwises =
+      reads_part 93 (Part 93) refl
+      (rule (reads_as (λ x. roll-ElseTree (record { place = x.0; transition = x.1.1 })) (λ o. IsOtherwise (Some o)) (λ x ts us b. an_else x.0 x.1.1 b.1 (x.1.0, b.2.1) b.2.2)
+      (reads_then (reads_word word.Else) (λ p. reads_then (reads_mark mark.Colon) (λ r. inners))))) [] refl
+
+  are_branches : (bs : List BranchTree) (ts us : List Spanned) → each IsBranch bs ts us → AreBranches bs ts us
+  are_branches [] ts us e = subst (AreBranches [] ts) e no_branch
+  are_branches (b ∷ bs) ts us e = more_branches e.1 (are_branches bs e.0 us e.2)
+
+  is_otherwise : (o : Option ElseTree) (ts us : List Spanned) → optional (λ x. IsOtherwise (Some x)) o ts us → IsOtherwise o ts us
+  is_otherwise None ts us e = subst (IsOtherwise None ts) e no_else
+  is_otherwise (Some o) ts us i = i
+
+  decisions : Reads SDL n (Part 91 ∷ []) (decision_at n inner) IsDecision
+  unfolding decision_at
+  decisions =
+      reads_part 91 (Part 91) refl
+      (rule (reads_as (λ x. roll-DecisionTree (record { question = x.0; «end» = x.1.0; branches = x.1.1.0; otherwise = x.1.1.1.0 })) IsDecision
+      (λ x ts us b. decision x.0 x.1.0 x.1.1.0 x.1.1.1.0 b.0 b.1 b.2.1 (are_branches x.1.1.0 b.2.0 b.2.2.0 b.2.2.1) (is_otherwise x.1.1.1.0 b.2.2.0 b.2.2.2.0 b.2.2.2.1) (x.1.1.1.1, b.2.2.2.2))
+      (reads_then (questions n) (λ q. reads_then (ends n) (λ e. reads_then (reads_each (branches)) (λ bs. reads_then (reads_maybe otherwises) (λ o. reads_word word.Enddecision))))))) [] refl
+
+  -- ---- actions
+
+  tasks : Reads SDL n (Part 90 ∷ []) (task_at n) (λ a ts us. (start : List Spanned) (place : Place) → Reserved word.Task place start ts → IsAction a place start us)
+  unfolding task_at
+  tasks =
+      reads_part 90 (Part 90) refl (rule (reads_as Informal _ (λ t ts us i start place r. informal t place r i) reads_text))
+      (rule (reads_as Task _ (λ xs ts us i start place r. assignments xs place r i) (reads_list mark.Comma 58 59 refl refl (assigns n) (assigns n) (Part 58) refl)) ∷ []) refl
+
+  actions : Reads SDL n (Part 89 ∷ []) (keyed_at n inner) (λ x. IsAction x.1 x.0)
+  unfolding keyed_at
+  actions =
+      reads_part 89 (Part 89) refl
+      (rule (reads_as (λ x. x) (λ x. IsAction x.1 x.0) (λ x ts us b. b.2 ts x.0 b.1) (reads_then (reads_word word.Task) (λ p. tasks))))
+      (rule (reads_as (λ x. (x.0, Output x.1)) (λ x. IsAction x.1 x.0) (λ x ts us b. outputs x.1 x.0 b.1 b.2)
+      (reads_then (reads_word word.Output) (λ p. reads_list mark.Comma 67 68 refl refl (outs n) (outs n) (Part 67) refl)))
+      ∷ rule (reads_as (λ x. (x.0, Call x.1)) (λ x. IsAction x.1 x.0) (λ x ts us b. called x.1 x.0 b.1 b.2) (reads_then (reads_word word.Call) (λ p. calls n)))
+      ∷ rule (reads_as (λ x. (x.0, Decision x.1)) (λ x. IsAction x.1 x.0) (λ x ts us b. decided x.1 x.0 b.1 b.2) (reads_then (reads_word word.Decision) (λ p. decisions))) ∷ []) refl
+
+  -- ---- steps
+
+  unlabelleds : (label : Option Name) → Reads SDL n (Part 87 ∷ []) (unlabelled_at n inner label) (Labelled label)
+  unfolding unlabelled_at action_at terminator_at
+  unlabelleds label =
+      reads_part 87 (Part 87) refl
+      (rule (reads_as (λ x. text.Step (record { label = label; place = x.0.0; action = x.0.1; «end» = x.1 })) (Labelled label)
+      (λ x ts us b start l. step label x.0.0 x.0.1 x.1 l b.1 b.2) (reads_then actions (λ a. ends n))))
+      (rule (reads_as (λ x. text.Terminator (record { label = label; place = x.0.0; kind = x.0.1; «end» = x.1.0 })) (Labelled label)
+      (λ x ts us b start l. (ts, l, b)) (reads_then (kinds n) (λ k. reads_then (ends n) (λ e. no_step_read n)))) ∷ []) refl
+
+  steps : Reads SDL n (Part 86 ∷ []) (step_at n inner) IsStepText
+  unfolding step_at
+  steps =
+      reads_part 86 (Part 86) refl (rule (reads_as (λ x. x.1) IsStepText (λ x ts us b. b.2 ts b.1) (reads_then (labels n) (λ l. unlabelleds (Some l)))))
+      (rule (reads_as (λ x. x) IsStepText (λ x ts us i. i ts refl) (unlabelleds None)) ∷ []) refl
+
+  onto_steps : (start : List Spanned) (t : SoFar) → Reads SDL n (Part 86 ∷ []) (onto_step n inner t) (λ u ts us. Covers start t ts → Covers start u us)
+  unfolding onto_step
+  onto_steps start t = reads_as (with_step t) _ (λ x ts us i c. covers_more start t x ts us i c) steps
+
+  -- steps from a place on, and their terminator
+  step_lists : (start : List Spanned) → Reads SDL n (Many 86 ∷ []) (onto (onto_step n inner) ([], None)) (λ t ts us. Covers start ([], None) ts → Covers start t us)
+  step_lists start = reads_onto (Covers start) (onto_steps start) ([], None)
+
+  transitions : Reads SDL (suc n) (Part 85 ∷ []) (transition_by n inner) IsTransition
+  unfolding transition_by
+  transitions =
+      reads_deeper 85 (Part 85) refl
+      (rule (reads_as (λ t. transition_of t.0 t.1) IsTransition (λ t ts us all. (let c = all ts (ts, no_step, refl) in transition t.0 t.1 c.1 c.2)) (reads_all step_lists))) [] refl
+
+-- what is read as a transition is one
+pub reads_transition : (n : ℕ) → Reads SDL n (Part 85 ∷ []) (transition_at n) IsTransition
+unfolding transition_at
+reads_transition zero = reads_none 85 (Part 85) refl
+reads_transition (suc n) = transitions n (transition_at n) (reads_transition n)
+
+-- ---- connections and procedures
+
+module _ (n : ℕ) where
+  pub connections : Reads SDL n (Part 94 ∷ []) (connection_at n) IsConnection
+  unfolding connection_at
+  connections =
+      reads_part 94 (Part 94) refl
+      (rule (reads_as (λ x. record { place = x.0; label = x.1.0; transition = x.1.1.1.0; «end» = x.1.1.1.1.1 }) IsConnection
+      (λ x ts us b. (b.0, b.1, (b.2.0, b.2.1, (b.2.2.0, (x.1.1.0, b.2.2.1), (b.2.2.2.0, b.2.2.2.1, (b.2.2.2.2.0, (x.1.1.1.1.0, b.2.2.2.2.1), b.2.2.2.2.2))))))
+      (reads_then (reads_word word.Connection) (λ p. reads_then reads_name (λ l. reads_then (reads_mark mark.Colon) (λ q.
+      (reads_then (reads_transition n) (λ t. reads_then (reads_word word.Endconnection) (λ c. ends n))))))))) [] refl
+
+  procedure_bodies : Reads SDL n (Part 96 ∷ []) (body_at n) IsBody
+  unfolding body_at own_body_at
+  procedure_bodies =
+      reads_part 96 (Part 96) refl (rule (reads_as (λ x. body.External x.0 x.1) IsBody (λ x ts us b. b) (reads_then (reads_word word.External) (λ p. ends n))))
+      (rule (reads_as (λ x. body.Own x.0 x.1.0 x.1.1.0 x.1.1.1.0 x.1.1.1.1.0 x.1.1.1.1.1) IsBody (λ x ts us b. b)
+      (reads_then (reads_each (dcls n)) (λ ds. reads_then (reads_word word.Start) (λ p. reads_then (ends n) (λ e.
+      (reads_then (reads_transition n) (λ t. reads_then (reads_each connections) (λ cs. closings n word.Endprocedure)))))))) ∷ []) refl
+
+  pub procedures : Reads SDL n (Part 95 ∷ []) (procedure_at n) IsProcedure
+  unfolding procedure_at
+  procedures =
+      reads_part 95 (Part 95) refl
+      (rule (reads_as (λ x. record { place = x.0; name = x.1.0; «end» = x.1.1.0; fpar = x.1.1.1.0; returns = x.1.1.1.1.0; body = x.1.1.1.1.1 }) IsProcedure (λ x ts us b. b)
+      (reads_then (reads_word word.Procedure) (λ p. reads_then reads_name (λ name. reads_then (ends n) (λ e.
+      (reads_then (reads_maybe (fpars n)) (λ f. reads_then (reads_maybe (returns n)) (λ r. procedure_bodies))))))))) [] refl

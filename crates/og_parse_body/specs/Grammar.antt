@@ -46,7 +46,7 @@ use Rattle.og_ast.specs.declared.procedure.ConnectionTree.{ConnectionTree}
 use Rattle.og_ast.specs.declared.procedure.ProcedureTree.{ProcedureTree}
 use Rattle.og_ast.specs.declared.procedure.ProcedureBody.{ProcedureBody}
 use Rattle.og_ast.specs.declared.procedure.ProcedureBody.TheVariants as body
-use Rattle.og_reading.specs.Fronts.{Text, Reserved, Sign, Named, Numeral, Quoted, Word, Passed, nothing, ◌▸◌, optional, each, separated_by, separated, perhaps_separated, in_brackets, IsNotBefore}
+use Rattle.og_reading.specs.Fronts.{Text, Reserved, Sign, Named, Numeral, Quoted, Word, Passed, Digits, nothing, ◌▸◌, optional, each, separated_by, separated, perhaps_separated, in_brackets, IsNotBefore}
 use Rattle.og_parse_expr.specs.Grammar.{IsExpr, IsVar, IsRelation}
 use Rattle.og_parse_body.specs.Reading.{transition_of}
 
@@ -137,7 +137,7 @@ IsQuestion (question.Text t) = Quoted t
 -- const = [ "-" ] number | name | TRUE | FALSE .
 abbrev pub IsConst : ConstTree → Text
 IsConst (constant.Number place n) = Numeral n place
-IsConst (constant.Negative place n) = Sign mark.Minus place ▸ (λ tokens rest. (number : Place) × Numeral n number tokens rest)
+IsConst (constant.Negative place n) = Sign mark.Minus place ▸ Digits n
 IsConst (constant.Name name) = Named name
 IsConst (constant.Truth place true) = Reserved word.True place
 IsConst (constant.Truth place false) = Reserved word.False place
@@ -208,7 +208,7 @@ mutual
 
   -- DECISION ( expr | ANY | text ) end { answers ":" transition } [ ELSE ":" transition ] ENDDECISION, behind its keyword
   pub data IsDecision : DecisionTree → List Spanned → List Spanned → Type 0 where
-    decision : (q : QuestionTree) (e : EndTree) (bs : List BranchTree) (o : Option ElseTree) {ts us vs ws xs rest : List Spanned} → IsQuestion q ts us → IsEnd e us vs → AreBranches bs vs ws
+    decision : (q : QuestionTree) (e : EndTree) (bs : List BranchTree) (o : Option ElseTree) (us : List Spanned) {ts vs ws xs rest : List Spanned} → IsQuestion q ts us → IsEnd e us vs → AreBranches bs vs ws
         → IsOtherwise o ws xs → Word word.Enddecision xs rest → IsDecision (roll-DecisionTree (record { question = q; «end» = e; branches = bs; otherwise = o })) ts rest
 
   pub data AreBranches : List BranchTree → List Spanned → List Spanned → Type 0 where

@@ -47,7 +47,7 @@ use Rattle.og_parse_expr.proofs.Rules.{HasExpressions}
 
 -- ---- what does not stand in front
 
-not_in_front : {t : TheToken} {place : Place} {ts us : List Spanned} (u : TheToken) → Stands t place ts us → (t ≡ u → ⊥) → IsNotBefore u ts
+pub not_in_front : {t : TheToken} {place : Place} {ts us : List Spanned} (u : TheToken) → Stands t place ts us → (t ≡ u → ⊥) → IsNotBefore u ts
 not_in_front u s ne = subst (IsNotBefore u) (sym s.parts) (λ e. ne (sym s.is ∙ e))
 
 -- no name stands in front
@@ -60,7 +60,7 @@ NoBracket = IsNotBefore (token.Mark mark.LeftParenthesis)
 abbrev pub NoMinus : List Spanned → Type 0
 NoMinus = IsNotBefore (token.Mark mark.Minus)
 
-not_kind : (t : TheToken) (ts : List Spanned) → IsNotFirst (kind_of t) (kinds_of ts) → IsNotBefore t ts
+pub not_kind : (t : TheToken) (ts : List Spanned) → IsNotFirst (kind_of t) (kinds_of ts) → IsNotBefore t ts
 not_kind t [] apart = tt
 not_kind t (u ∷ ts) apart = λ e. apart (ap kind_of e)
 
@@ -116,6 +116,8 @@ field_stands (token.Mark m) t ts cs e k = let lt = mark_below m in absurd (elim 
 field_stands (token.Number x) t ts cs e k = absurd cc
 field_stands (token.Text x) t ts cs e k = absurd cc
 field_stands token.End t ts cs e k = absurd cc
+field_stands (token.AsnKeyword w) t ts cs e k = absurd cc
+field_stands (token.AsnMark m) t ts cs e k = absurd cc
 
 selectors_grown : (ss later : List SelectorTree) (ts us vs : List Spanned) → IsSelectors ss ts us → each IsSelector later us vs → IsSelectors (ss ++ later) ts vs
 selectors_grown [] later ts us vs s e = all later ts vs (subst (λ (z : List Spanned). each IsSelector later z vs) (sym (none ts us s)) e)
@@ -160,7 +162,7 @@ module _ (table : List Symbol) (has : HasExpressions table) (n : ℕ) where
       (rule (reads_as (operation op.Subtract) IsSumOperator (λ place ts us s. minus s) (reads_mark mark.Minus)) ∷ [])
       (has.rules 6 refl)
 
-  reads_relation : Reads table n (Part 10 ∷ []) relation_sign_at IsRelated
+  pub reads_relation : Reads table n (Part 10 ∷ []) relation_sign_at IsRelated
   unfolding relation_sign_at
   reads_relation =
       reads_part 10 (Part 10) refl

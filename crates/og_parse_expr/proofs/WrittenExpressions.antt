@@ -79,7 +79,7 @@ module _ (table : List Symbol) (has : HasExpressions table) where
   sum_operators (plus s) = by_rule 6 refl (Part 7) refl 0 refl (λ n. sum_operator_at) (writes_as (operation op.Add) (writes_mark mark.Plus _ _ _ s)) (λ n cs. refl)
   sum_operators (minus s) = by_rule 6 refl (Part 7) refl 1 refl (λ n. sum_operator_at) (writes_as (operation op.Subtract) (writes_mark mark.Minus _ _ _ s)) (λ n cs. refl)
 
-  relations : {r : RelationOperator} {place : Place} {ts us : List Spanned} → IsRelation r place ts us → Writes table (Part 10 ∷ []) (λ n. relation_sign_at) (related r place) ts us
+  pub relations : {r : RelationOperator} {place : Place} {ts us : List Spanned} → IsRelation r place ts us → Writes table (Part 10 ∷ []) (λ n. relation_sign_at) (related r place) ts us
   unfolding relation_sign_at
   relations (equal s) = by_rule 9 refl (Part 10) refl 0 refl (λ n. relation_sign_at) (writes_as (related rel.Equal) (writes_mark mark.Equal _ _ _ s)) (λ n cs. refl)
   relations (not_equal s) = by_rule 9 refl (Part 10) refl 1 refl (λ n. relation_sign_at) (writes_as (related rel.NotEqual) (writes_mark mark.NotEqual _ _ _ s)) (λ n cs. refl)

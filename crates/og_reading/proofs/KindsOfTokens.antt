@@ -44,8 +44,8 @@ keyword_is w (token.Name x) e = let lt = keyword_below w in absurd (name_kind (i
 keyword_is w (token.Number n) e = absurd (omega arith)
 keyword_is w (token.Text x) e = absurd (omega arith)
 keyword_is w token.End e = absurd (omega arith)
-keyword_is w (token.AsnKeyword k) e = let lt = keyword_below w in absurd (omega arith)
-keyword_is w (token.AsnMark k) e = let lt = keyword_below w in absurd (omega arith)
+keyword_is w (token.AsnKeyword x) e = let lt = keyword_below w in absurd (omega arith)
+keyword_is w (token.AsnMark x) e = let lt = keyword_below w in absurd (omega arith)
 
 pub mark_is : (m : Mark) (t : Token) → kind_of t ≡ kind_of_mark m → t ≡ token.Mark m
 mark_is m (token.Mark v) e = let same : tag_of marks.the_type v ≡ tag_of marks.the_type m = omega arith in ap token.Mark (tag_one marks.the_type tt v m same)
@@ -54,8 +54,8 @@ mark_is m (token.Name x) e = let lt = mark_below m in absurd (name_kind (is_name
 mark_is m (token.Number n) e = absurd (omega arith)
 mark_is m (token.Text x) e = absurd (omega arith)
 mark_is m token.End e = absurd (omega arith)
-mark_is m (token.AsnKeyword k) e = let lt = mark_below m in absurd (omega arith)
-mark_is m (token.AsnMark k) e = let lt = mark_below m in absurd (omega arith)
+mark_is m (token.AsnKeyword x) e = let lt = mark_below m in absurd (omega arith)
+mark_is m (token.AsnMark x) e = let lt = mark_below m in absurd (omega arith)
 
 -- a name of this word
 pub record IsNamed (t : Token) : Type 0 where
@@ -74,8 +74,8 @@ name_is (token.Mark m) e = absurd (omega arith)
 name_is (token.Number n) e = absurd (omega arith)
 name_is (token.Text x) e = absurd (omega arith)
 name_is token.End e = absurd (omega arith)
-name_is (token.AsnKeyword k) e = absurd (omega arith)
-name_is (token.AsnMark k) e = absurd (omega arith)
+name_is (token.AsnKeyword x) e = absurd (omega arith)
+name_is (token.AsnMark x) e = absurd (omega arith)
 
 pub record IsNumber (t : Token) : Type 0 where
   pub number : ℕ
@@ -88,8 +88,8 @@ number_is (token.Keyword w) e = absurd (omega arith)
 number_is (token.Mark m) e = absurd (omega arith)
 number_is (token.Text x) e = absurd (omega arith)
 number_is token.End e = absurd (omega arith)
-number_is (token.AsnKeyword k) e = absurd (omega arith)
-number_is (token.AsnMark k) e = absurd (omega arith)
+number_is (token.AsnKeyword x) e = absurd (omega arith)
+number_is (token.AsnMark x) e = absurd (omega arith)
 
 pub record IsQuoted (t : Token) : Type 0 where
   pub text : Word
@@ -102,5 +102,5 @@ text_is (token.Keyword w) e = absurd (omega arith)
 text_is (token.Mark m) e = absurd (omega arith)
 text_is (token.Number n) e = absurd (omega arith)
 text_is token.End e = absurd (omega arith)
-text_is (token.AsnKeyword k) e = absurd (omega arith)
-text_is (token.AsnMark k) e = absurd (omega arith)
+text_is (token.AsnKeyword x) e = absurd (omega arith)
+text_is (token.AsnMark x) e = absurd (omega arith)

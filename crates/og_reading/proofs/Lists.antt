@@ -1,5 +1,5 @@
 -- Lists with commas, as parts of their own and in brackets, both ways.
-use Rattle.std.proofs.Common.{◌≡◌, ℕ, List, [], ◌∷◌, ◌++◌, Some, slice_get, refl, sym, ap, subst}
+use Rattle.std.proofs.Common.{◌≡◌, ℕ, List, [], ◌∷◌, ◌++◌, Option, Some, None, slice_get, refl, sym, ap, subst}
 use Rattle.og_grammar.specs.declared.Nesting.{Nesting}
 use Rattle.og_grammar.specs.declared.Nesting.TheVariants.{Keeps}
 use Rattle.og_grammar.specs.declared.Symbol.{Symbol}
@@ -9,10 +9,10 @@ use Rattle.og_lexer.specs.declared.Mark.{Mark}
 use Rattle.og_lexer.specs.declared.Mark.TheVariants.{LeftParenthesis, RightParenthesis}
 use Rattle.og_lexer.specs.declared.Spanned.{Spanned}
 use Rattle.og_reading.specs.Kinds.{kind_of_mark}
-use Rattle.og_reading.specs.Reading.{Take, behind, after, more_of, next, list_at, list_in_brackets, list_or_none}
-use Rattle.og_reading.specs.Fronts.{Text, Passed, ◌▸◌, each, separated_by, separated, perhaps_separated, in_brackets}
+use Rattle.og_reading.specs.Reading.{Take, behind, after, maybe, more_of, next, list_at, list_in_brackets, list_or_none}
+use Rattle.og_reading.specs.Fronts.{Text, Passed, ◌▸◌, optional, each, separated_by, separated, perhaps_separated, in_brackets}
 use Rattle.og_reading.proofs.Deriving.{IsPart}
-use Rattle.og_reading.proofs.ReadParts.{Reads, rule, Both, Grown, reads_mark, reads_then, reads_as, reads_part, reads_option, reads_more}
+use Rattle.og_reading.proofs.ReadParts.{Reads, rule, Both, Grown, as_take, reads_mark, reads_then, reads_as, reads_part, reads_option, reads_more}
 use Rattle.og_reading.proofs.WrittenParts.{left, Writes, writes_mark, writes_then, writes_and, writes_as, writes_part, writes_none, writes_some, writes_onto, writes_each}
 
 -- the one rule of a part
@@ -32,7 +32,7 @@ some_bracket Is (x ∷ xs) ts us b = b
 
 module _ {X : Type 0} {table : List Symbol} {n : ℕ} {a : Take X} {Is : X → Text} (m : Mark) (p q : ℕ) {s z : Symbol} (list : rules_of p table ≡ (s ∷ Many q ∷ []) ∷ [])
     (more : rules_of q table ≡ (Token (kind_of_mark m) Keeps ∷ z ∷ []) ∷ []) (first : Reads table n (s ∷ []) a Is) (again : Reads table n (z ∷ []) a Is) where
-  reads_next : Reads table n (Part q ∷ []) (next a) (λ y. Passed m ▸ Is y)
+  pub reads_next : Reads table n (Part q ∷ []) (next a) (λ y. Passed m ▸ Is y)
   reads_next = reads_part q (Part q) refl (rule (reads_as (λ x. x.1) (λ y. Passed m ▸ Is y) (λ x ts us b. (b.0, (x.0, b.1), b.2)) (reads_then (reads_mark m) (λ p. again)))) [] more
 
   pub reads_list : (o : Symbol) → IsPart p o → Reads table n (o ∷ []) (list_at a) (separated_by m Is)
@@ -55,7 +55,7 @@ reads_or_none a {Is = Is} p list = reads_option [] (λ ts. refl) (reads_as (λ x
 module _ {X : Type 0} {table : List Symbol} {a : ℕ → Take X} {Is : X → Text} (m : Mark) (p q : ℕ) {s z : Symbol} (list : rules_of p table ≡ (s ∷ Many q ∷ []) ∷ [])
     (more : rules_of q table ≡ (Token (kind_of_mark m) Keeps ∷ z ∷ []) ∷ [])
     (first : (x : X) (ts us : List Spanned) → Is x ts us → Writes table (s ∷ []) a x ts us) (again : (x : X) (ts us : List Spanned) → Is x ts us → Writes table (z ∷ []) a x ts us) where
-  writes_next : (x : X) (ts us : List Spanned) → (Passed m ▸ Is x) ts us → Writes table (Part q ∷ []) (λ n. next (a n)) x ts us
+  pub writes_next : (x : X) (ts us : List Spanned) → (Passed m ▸ Is x) ts us → Writes table (Part q ∷ []) (λ n. next (a n)) x ts us
   writes_next x ts us i =
       writes_part q (Part q) refl 0 _ (only_rule table q more) (λ n. next (a n)) (writes_as (λ y. y.1) (writes_and (writes_mark m i.1.0 ts i.0 i.1.1) (again x i.0 us i.2))) (λ n cs. refl)
 
@@ -81,3 +81,22 @@ pub writes_or_none : {X : Type 0} {table : List Symbol} (a : ℕ → Take X) {Is
     → Writes table (Maybe p ∷ []) (λ n. list_or_none (a n)) xs ts us
 writes_or_none a p list [] ts us i = writes_none (λ n. list_at (a n)) [] ts us i
 writes_or_none a p list (x ∷ xs) ts us i = writes_some [] (list (x ∷ xs) ts us i)
+
+-- ---- options and repetitions as they are
+
+pub reads_each : {X : Type 0} {table : List Symbol} {n p : ℕ} {Is : X → Text} {a : Take X} → Reads table n (Part p ∷ []) a Is → Reads table n (Many p ∷ []) (more_of a []) (each Is)
+reads_each {X = X} {Is = Is} one = reads_as (λ xs. xs) (each Is) (λ xs ts us g. subst (λ (z : List X). each Is z ts us) (sym g.1) g.2) (reads_more [] one)
+
+pub writes_all : {X : Type 0} {table : List Symbol} {p : ℕ} {a : ℕ → Take X} (Is : X → Text) → ((x : X) (ts us : List Spanned) → Is x ts us → Writes table (Part p ∷ []) a x ts us) → (xs : List X) (ts us : List Spanned)
+    → each Is xs ts us → Writes table (Many p ∷ []) (λ n. more_of (a n) []) xs ts us
+writes_all Is one xs ts us i = writes_onto (writes_each Is one [] xs ts us i)
+
+pub writes_maybe : {X : Type 0} {table : List Symbol} {p : ℕ} (a : ℕ → Take X) (Is : X → Text) → ((x : X) (ts us : List Spanned) → Is x ts us → Writes table (Part p ∷ []) a x ts us) → (o : Option X) (ts us : List Spanned)
+    → optional Is o ts us → Writes table (Maybe p ∷ []) (λ n. maybe (a n)) o ts us
+writes_maybe {X = X} a Is one None ts us e = writes_none (λ n. as_take (λ (x : X). Some x) (a n)) None ts us e
+writes_maybe {X = X} a Is one (Some x) ts us i = writes_some None (writes_as (λ (x : X). Some x) (one x ts us i))
+
+-- these and then those
+pub each_both : {X : Type 0} (Is : X → Text) (xs ys : List X) (ts us vs : List Spanned) → each Is xs ts us → each Is ys us vs → each Is (xs ++ ys) ts vs
+each_both Is [] ys ts us vs e f = subst (λ (z : List Spanned). each Is ys z vs) (sym e) f
+each_both Is (x ∷ xs) ys ts us vs e f = (e.0, e.1, each_both Is xs ys e.0 us vs e.2 f)

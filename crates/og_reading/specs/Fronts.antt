@@ -40,12 +40,15 @@ Numeral n = Stands (token.Number n)
 abbrev pub Quoted : TextTree → Text
 Quoted text = Stands (token.Text text.text) text.place
 
--- a keyword and a mark whose place is not kept
+-- a keyword, a mark and a number whose place is not kept
 abbrev pub Word : Keyword → Text
 Word word tokens rest = (place : Place) × Reserved word place tokens rest
 
 abbrev pub Passed : Mark → Text
 Passed mark tokens rest = (place : Place) × Sign mark place tokens rest
+
+abbrev pub Digits : ℕ → Text
+Digits n tokens rest = (place : Place) × Numeral n place tokens rest
 
 -- ---- texts one behind the other
 

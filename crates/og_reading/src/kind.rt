@@ -174,7 +174,7 @@ pub const WITH: u8 = 82;
 
 pub const XOR: u8 = 83;
 
-/// The kind of a token. A name that is not spelt like one, and a token of ASN.1, has none.
+/// The kind of a token. A name that is not spelt like one has none, nor have the words and marks of ASN.1.
 pub fn kind_of(token: &Token) -> u8
     ensures { result ≡ kind_of token.now }
 {
@@ -191,8 +191,7 @@ pub fn kind_of(token: &Token) -> u8
         Token::End => 3,
         Token::Mark(mark) => kind_of_mark(*mark),
         Token::Keyword(word) => kind_of_keyword(*word),
-        Token::AsnKeyword(_) => 255,
-        Token::AsnMark(_) => 255,
+        Token::AsnKeyword(_) | Token::AsnMark(_) => 255,
     }
 }
 
