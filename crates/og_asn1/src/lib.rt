@@ -1,11 +1,13 @@
 //! Modules of ASN.1 (X.680): their trees.
 #![tactic(auto)]
 
+mod copy;
 mod enumeration;
 mod flat;
 pub mod grammar;
 pub mod kind;
 mod left;
+mod limits;
 mod many;
 pub mod laws;
 mod module;
