@@ -76,10 +76,7 @@ pub struct RangeFront<'a> {
 }
 
 /// `a | a .. b`
-fn range_front<'a>(
-    alloc: Global,
-    tokens: &'a [Spanned],
-) -> Result<Option<RangeFront<'a>>, NoMemory>
+fn range_front<'a>(alloc: Global, tokens: &'a [Spanned]) -> Result<Option<RangeFront<'a>>, NoMemory>
     ensures { IfOk result (λ front. option_map read_range front ≡ range_front tokens.now) }
 {
     let Some(Front { bound: lo, rest }) = bound_in(alloc, tokens)? else {
@@ -130,15 +127,17 @@ fn closed_range(alloc: Global, tokens: &[Spanned]) -> Result<Option<Range>, NoMe
     ensures { IfOk result (λ range. range ≡ closed (range_front tokens.now)) }
 {
     match range_front(alloc, tokens)? {
-        Some(RangeFront {
-            range,
-            rest: [
-                Spanned {
-                    token: Token::AsnMark(AsnMark::RightParenthesis),
-                    ..
-                },
-            ],
-        }) => Ok(Some(range)),
+        Some(
+            RangeFront {
+                range,
+                rest: [
+                    Spanned {
+                        token: Token::AsnMark(AsnMark::RightParenthesis),
+                        ..
+                    },
+                ],
+            },
+        ) => Ok(Some(range)),
         _ => Ok(None),
     }
 }
