@@ -11,6 +11,7 @@ use Rattle.og_lexer.specs.declared.AsnMark.TheVariants as mark
 use Rattle.og_lexer.specs.declared.Spanned.{Spanned}
 use Rattle.og_lexer.specs.declared.Token.{Token}
 use Rattle.og_lexer.specs.declared.Token.TheVariants as token
+use Rattle.og_asn1.specs.declared.limits as code
 use Rattle.og_asn1.specs.declared.flat.Bound.{Bound}
 use Rattle.og_asn1.specs.declared.flat.Bound.TheVariants as bound
 use Rattle.og_asn1.specs.declared.flat.Range.{Range}
@@ -34,6 +35,9 @@ pub record Front : Type 0 where
   pub bound : Bound
   pub rest : List Spanned
 
+abbrev pub read_front : code.Front.Front → Front
+read_front front = record { bound = front.bound; rest = front.rest.now }
+
 -- a sign and a number
 abbrev pub negative_bound : List Spanned → Option Front
 negative_bound [] = None
@@ -55,30 +59,48 @@ bound_in (t ∷ ts) = bound_by t ts t.token
 
 -- ---- ranges and sizes
 
--- a second bound, and nothing behind it
-abbrev pub with_second : Bound → Option Front → Option Range
-with_second lo None = None
-with_second lo (Some f) = alone f.rest
-  where
-    alone : List Spanned → Option Range
-    alone [] = Some (record { lo = lo; hi = f.bound })
-    alone (t ∷ ts) = None
+-- a range in front, and the tokens behind it
+pub record RangeFront : Type 0 where
+  pub range : Range
+  pub rest : List Spanned
 
-abbrev pub with_first : Option Front → Option Range
+abbrev pub read_range : code.RangeFront.RangeFront → RangeFront
+read_range front = record { range = front.range; rest = front.rest.now }
+
+abbrev pub with_second : Bound → Option Front → Option RangeFront
+with_second lo None = None
+with_second lo (Some f) = Some (record { range = record { lo = lo; hi = f.bound }; rest = f.rest })
+
+abbrev pub with_first : Option Front → Option RangeFront
 with_first None = None
 with_first (Some f) = behind f.rest
   where
-    range_behind : List Spanned → Token → Option Range
-    range_behind ts (token.AsnMark mark.Range) = with_second f.bound (bound_in ts)
-    range_behind ts _ = None
+    alone : Option RangeFront
+    alone = Some (record { range = record { lo = f.bound; hi = f.bound }; rest = f.rest })
 
-    behind : List Spanned → Option Range
-    behind [] = Some (record { lo = f.bound; hi = f.bound })
+    range_behind : List Spanned → Token → Option RangeFront
+    range_behind ts (token.AsnMark mark.Range) = with_second f.bound (bound_in ts)
+    range_behind ts _ = alone
+
+    behind : List Spanned → Option RangeFront
+    behind [] = alone
     behind (t ∷ ts) = range_behind ts t.token
 
 -- a | a .. b
+abbrev pub range_front : List Spanned → Option RangeFront
+range_front tokens = with_first (bound_in tokens)
+
+-- nothing stands behind it
+abbrev pub ended : Option RangeFront → Option Range
+ended None = None
+ended (Some front) = by front.rest
+  where
+    by : List Spanned → Option Range
+    by [] = Some front.range
+    by (t ∷ ts) = None
+
 abbrev pub range_in : List Spanned → Option Range
-range_in tokens = with_first (bound_in tokens)
+range_in tokens = ended (range_front tokens)
 
 abbrev pub is_mark : AsnMark → Token → Bool
 is_mark mark.LeftParenthesis (token.AsnMark mark.LeftParenthesis) = true
@@ -89,19 +111,18 @@ abbrev pub is_size_word : Token → Bool
 is_size_word (token.AsnKeyword Size) = true
 is_size_word _ = false
 
--- the tokens before a closing bracket at the end
-abbrev pub before_bracket : List Spanned → Option (List Spanned)
-before_bracket [] = None
-before_bracket (t ∷ []) = if is_mark mark.RightParenthesis t.token then Some [] else None
-before_bracket (t ∷ u ∷ ts) = option_map (λ front. t ∷ front) (before_bracket (u ∷ ts))
-
-abbrev pub range_inside : Option (List Spanned) → Option Range
-range_inside None = None
-range_inside (Some tokens) = range_in tokens
+-- nothing stands behind it but a closing bracket
+abbrev pub closed : Option RangeFront → Option Range
+closed None = None
+closed (Some front) = by front.rest
+  where
+    by : List Spanned → Option Range
+    by (t ∷ []) = if is_mark mark.RightParenthesis t.token then Some front.range else None
+    by _ = None
 
 -- SIZE "(" a ")" | SIZE "(" a .. b ")"
 abbrev pub size_in : List Spanned → Option Range
-size_in (word ∷ bracket ∷ tokens) = if is_size_word word.token then (if is_mark mark.LeftParenthesis bracket.token then range_inside (before_bracket tokens) else None) else None
+size_in (word ∷ bracket ∷ tokens) = if is_size_word word.token then (if is_mark mark.LeftParenthesis bracket.token then closed (range_front tokens) else None) else None
 size_in _ = None
 
 abbrev pub or_size : Option Range → Limits

@@ -122,7 +122,7 @@ impl<'a> Left<'a> {
 }
 
 /// The name that a word is, and `x` where it is none.
-fn named(alloc: Global, place: Place, word: Word) -> Result<Name, NoMemory>
+pub fn named(alloc: Global, place: Place, word: Word) -> Result<Name, NoMemory>
     ensures { IfOk result (λ name. name ≡ named place word) }
 {
     if is_asn_name(word.bytes.as_slice()) {

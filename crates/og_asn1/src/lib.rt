@@ -1,12 +1,14 @@
 //! Modules of ASN.1 (X.680): their trees.
 #![tactic(auto)]
 
+mod copy;
 mod enumeration;
 mod flat;
 pub mod grammar;
 pub mod kind;
 pub mod laws;
 mod left;
+mod limits;
 mod many;
 mod module;
 mod parse;

@@ -11,7 +11,7 @@ use Rattle.og_types.specs.Table.{is_table}
 use Rattle.og_types.proofs.Tables.{tables_are_downward}
 use Rattle.og_types.proofs.Added.{depth_bound}
 use Rattle.og_value.specs.Bytes.{is_blank, begins, behind}
-use Rattle.og_value.specs.Forms.{nesting, HasForm, IsLongest}
+use Rattle.og_value.specs.Forms.{nesting, HasForm, IsLongest, HasTextAt}
 use Rattle.og_value.specs.Reads.{Names, Reads, IsReadAt}
 use Rattle.og_value.specs.Scans.{mark_here, found_in}
 use Rattle.og_value.specs.Shows.{shown}
@@ -50,6 +50,11 @@ module _ (types : List Sort) (names : Names) (id : TypeId) where
         one_value types names id b.text v w (subst (λ text. Reads types names id text v) same a.reads) b.reads,
         omega (arith, a.ends, b.ends, ap length same),
       )
+
+  pub one_end : (bytes : List ℕ) (at : ℕ) (v : Value) (m n : ℕ) → IsReadAt types names id bytes at v m → HasTextAt bytes at n → m ≡ n
+  one_end bytes at v m n read has =
+      let same : read.text ≡ has.text = one_longest (drop at bytes) read.text has.text read.longest has.longest in
+      omega (arith, read.ends, has.ends, ap length same)
 
   -- ---- what is found
 

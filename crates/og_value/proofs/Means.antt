@@ -72,10 +72,6 @@ by_colon read names sort w r more none colon = rw (none, colon) refl
 
 -- ---- nothing begins so
 
-stopped : (P : Inner → Type 0) → P None → ((read : TypeId → Reader Value) → P (Some read)) → (read : Inner) → P read
-stopped P flat deep None = flat
-stopped P flat deep (Some read) = deep read
-
 none_at : (read : Inner) (names : Names) (sort : Sort) (bs : List ℕ) (b : ℕ) → stops b ≡ true → sorted_by read names sort (b ∷ bs) ≡ None
 unfolding sorted_by digits_at word_at
 none_at None names sort bs b h = stopping (λ c. sorted_by None names sort (c ∷ bs) ≡ None) refl refl refl b h
@@ -224,10 +220,6 @@ inside_some read names sort bytes none = rw none refl
 sequence_none : (read : TypeId → Reader Value) (names : Names) (p : Part) (ps : List Part) (bytes : List ℕ) → component_by read names p bytes ≡ None → sequence_by read names p ps bytes ≡ None
 unfolding sequence_by
 sequence_none read names p ps bytes none = rw none refl
-
-items_none : (one : Reader Value) (sort : Sort) (bytes : List ℕ) → one bytes ≡ None → items_by one sort bytes ≡ None
-unfolding items_by
-items_none one sort bytes none = rw none refl
 
 -- what the values of braces are as a value
 sized : (o : Option (List Value)) (sort : Sort) (v : Value) (r : List ℕ)

@@ -66,9 +66,6 @@ called names id text is = ap (is_numbered id) is.place ∙ same_number id.0
 -- ---- its place among others
 
 module _ {X : Type 0} (name : X → NameId) where
-  alike : X → X → Bool
-  alike x y = same_name (name x) (name y)
-
   differs : (x y : X) (xs : List X) (k : ℕ) → slice_get xs k ≡ Some y → list_any (λ z. same_name (name x) (name z)) xs ≡ false
       → same_name (name x) (name y) ≡ false
   differs x y [] k e h = absurd (none-some y e)

@@ -13,10 +13,6 @@ regroup : {X : Type 0} (front : List X) (x : X) (found : Found (List X))
 regroup {X = X} front x None = refl
 regroup {X = X} front x (Some p) = ap (λ (ys : List X). Some (ys, p.1)) (sym (append_assoc front (x ∷ []) p.0))
 
-nothing_before : {X : Type 0} (found : Found (List X)) → with_front [] found ≡ found
-nothing_before None = refl
-nothing_before (Some p) = refl
-
 -- ---- as many as there are
 
 -- the values so far, with those that at most `left` more turns read, are what is read in all

@@ -141,7 +141,7 @@ abbrev pub ItemsAreRead : Type 0
 ItemsAreRead =
     IsText list (codes "{}") (Values.SeqOf []) × IsText list (codes "{1}") (Values.SeqOf (number 1 ∷ []))
     × IsText list (codes "{1,2}") (Values.SeqOf (number 1 ∷ number 2 ∷ [])) × IsBad list (codes "{1, 2, 3}") × IsBad list (codes "{1, 10}")
-    × IsBad list (codes "{1 2}") × IsBad list (codes "{1, }") × IsBad list (codes "{, 1}") × IsBad list (codes "{a 1}")
+    × IsText list (codes "{\t1 , 2 }") (Values.SeqOf (number 1 ∷ number 2 ∷ [])) × IsBad list (codes "{1 2}") × IsBad list (codes "{1, }") × IsBad list (codes "{, 1}") × IsBad list (codes "{a 1}")
     × IsText pairs (codes "{{a 1, b low}}") (Values.SeqOf (one_pair ∷ [])) × IsBad pairs (codes "{}")
     × IsBad pairs (codes "{{a 1, b low}, {a 1, b low}, {a 1, b low}}")
     × IsText no_items (codes "{}") (Values.SeqOf []) × IsBad no_items (codes "{one: 1}")
@@ -151,6 +151,7 @@ abbrev pub ChoicesAreRead : Type 0
 ChoicesAreRead =
     IsText pick (codes "one: 4") (Values.Choice 0 (number 4)) × IsText pick (codes "One\t:4") (Values.Choice 0 (number 4))
     × IsText pick (codes "two: {{a 1, b low}}") (Values.Choice 1 (Values.SeqOf (one_pair ∷ [])))
+    × IsText pick (codes "two : { { a 1 , b low } , {a 1,b low} }") (Values.Choice 1 (Values.SeqOf (one_pair ∷ one_pair ∷ [])))
     × IsBad pick (codes "three: 4") × IsBad pick (codes "one 4") × IsBad pick (codes "one: 10") × IsBad pick (codes "two: 4")
     × IsBad pick (codes "one: one: 4") × IsBad pick (codes "TRUE: 4") × IsBad pick (codes "4")
 

@@ -8,17 +8,19 @@ use Rattle.og_types.specs.declared.Value.{Value}
 use Rattle.og_types.specs.Values.{is_in}
 use Rattle.og_types.specs.Table.{is_table}
 use Rattle.og_value.specs.Bytes.{is_blank, is_word, begins, behind}
-use Rattle.og_value.specs.Forms.{HasForm, IsLongest}
+use Rattle.og_value.specs.Forms.{HasForm, IsLongest, HasTextAt}
 use Rattle.og_value.specs.Reads.{Names, Reads, IsReadAt}
 use Rattle.og_value.specs.Scans.{found_in}
 use Rattle.og_value.specs.Shows.{shown}
 use Rattle.og_value.specs.Named.{has_names}
 
--- a text reads as one value of a type, and at a place there is one text that is read
+-- a text reads as one value of a type, and at a place there is one text that is read, whatever the type
 pub record TextsReadAsOneValue : Type 0 where
   pub value : (types : List Sort) (names : Names) (id : TypeId) (text : List ℕ) (v w : Value) → Reads types names id text v → Reads types names id text w → v ≡ w
   pub place : (types : List Sort) (names : Names) (id : TypeId) (bytes : List ℕ) (at : ℕ) (v w : Value) (m n : ℕ)
       → IsReadAt types names id bytes at v m → IsReadAt types names id bytes at w n → (v ≡ w) × (m ≡ n)
+  pub end : (types : List Sort) (names : Names) (id : TypeId) (bytes : List ℕ) (at : ℕ) (v : Value) (m n : ℕ)
+      → IsReadAt types names id bytes at v m → HasTextAt bytes at n → m ≡ n
 
 -- what can be computed for given bytes is what the longest text in front of them reads as
 abbrev pub WhatIsFoundIsRead : Type 0
