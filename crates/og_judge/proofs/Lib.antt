@@ -1,0 +1,5 @@
+pub mod OneByOne
+pub mod Syntax
+pub mod Judgements
+pub mod InFiles
+pub mod Parts

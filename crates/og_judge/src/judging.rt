@@ -1,0 +1,45 @@
+//! The public call.
+ghost use Rattle.std.specs.Prelude.{◌≡◌, ◌≤◌, IfOk, IfErr, length};
+ghost use Rattle.og_front.specs.Names.{HasShortNames};
+ghost use Rattle.og_front.specs.Written.{IsWrittenTree};
+ghost use Rattle.og_judge.specs.Judging.{HasOneProcess, AreShort, most_files, sources};
+ghost use Rattle.og_judge.specs.Answers.{IsJudged, Refuses, IsBuiltFrom, IsFirstOfRules};
+
+use crate::ModelFile;
+use crate::texts::lex_files;
+use crate::trees::{modules_of, tree_of};
+use og_base::ModelError;
+use og_front::{SystemText, first_violation, model_of, tables_of};
+use og_model::Model;
+use std::alloc::Global;
+
+/// The model of model files that violate no rule, or their first violation. The files are numbered from 0 in their order.
+pub fn judge(alloc: Global, files: &[ModelFile]) -> Result<Model, ModelError>
+    requires few { length files.now ≤ most_files }
+    requires short { AreShort (sources files.now) }
+    requires one { HasOneProcess (sources files.now) }
+    ensures accepted { IfOk result (IsJudged (sources files.now)) }
+    ensures refused { IfErr result (Refuses (sources files.now)) }
+{
+    let texts = lex_files(alloc, files)?;
+    modules_of(alloc, files, texts.as_slice())?;
+    let system = tree_of(alloc, files, texts.as_slice())?;
+    model_of_system(alloc, &system)
+}
+
+/// The model of a tree that keeps the rules, or its first violation.
+fn model_of_system(alloc: Global, system: &SystemText) -> Result<Model, ModelError>
+    requires short { HasShortNames system.now }
+    requires written { IsWrittenTree system.now }
+    ensures built { IfOk result (IsBuiltFrom system.now) }
+    ensures broken { IfErr result (IsFirstOfRules system.now) }
+{
+    let tables = tables_of(alloc, system)?;
+    if let Some(violation) = first_violation(alloc, system, &tables)? {
+        return Err(ModelError::Broken(violation));
+    }
+    match model_of(alloc, system, &tables) {
+        Ok(model) => Ok(model),
+        Err(met) => Err(ModelError::NoMemory(met)),
+    }
+}
