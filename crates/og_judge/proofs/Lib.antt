@@ -3,3 +3,4 @@ pub mod Syntax
 pub mod Judgements
 pub mod InFiles
 pub mod Parts
+pub mod Alone

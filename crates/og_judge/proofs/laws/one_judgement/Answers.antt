@@ -1,5 +1,6 @@
 use Rattle.og_judge.proofs.InFiles.{stands_in_a_file}
-use Rattle.og_judge.proofs.Judgements.{TextLaws, never_both, one_violation, one_model}
+use Rattle.og_judge.proofs.Judgements.{one_tree, never_both, one_violation, one_model}
+use Rattle.og_judge.proofs.Alone.{each_alone}
 use Rattle.og_judge.proofs.laws.one_judgement.Goals as goal
 
 pub returns-clause-apart : goal.returns-clause-apart
@@ -34,3 +35,16 @@ returns-clause-model c = one_model (record {
   asn_lexicals = c.one_asn_reading.ensures.violation;
   asn_apart = c.one_asn_reading.ensures.apart;
 })
+
+pub returns-clause-each : goal.returns-clause-each
+returns-clause-each c = each_alone c.one_answer.ensures.each
+
+pub returns-clause-tree : goal.returns-clause-tree
+returns-clause-tree c = one_tree (record {
+  texts = c.one_reading.ensures.tokens;
+  lexicals = c.one_reading.ensures.violation;
+  apart = c.one_reading.ensures.apart;
+  asn_texts = c.one_asn_reading.ensures.tokens;
+  asn_lexicals = c.one_asn_reading.ensures.violation;
+  asn_apart = c.one_asn_reading.ensures.apart;
+}) 0
