@@ -14,7 +14,7 @@ parsed_alone bytes = (([], refl), tt)
 accepted_alone : (bytes : List ℕ) (system : SystemText) → IsTextOf 0 system bytes → first_of_rules system ≡ None → AreAccepted (sdl_file bytes ∷ [])
 accepted_alone bytes system text keeps =
     let none = by_none (first_of (violations_in Names system)) (first_of (violations_in States system)) (first_of (violations_in Limits system)) keeps in (
-      ((text.tokens, text.comments, text.lexes), tt),
+      ((text.tokens, (text.comments, text.lexes)), tt),
       (
         parsed_alone bytes,
         (
@@ -29,16 +29,16 @@ accepted_alone bytes system text keeps =
 
 first_alone : (bytes : List ℕ) (v : Violation) → FirstViolation 0 bytes v → IsFirstViolation (sdl_file bytes ∷ []) v
 first_alone bytes v (inl lexical) = inl (inl lexical)
-first_alone bytes v (inr (inl grammar)) = inr (((grammar.first ∷ grammar.more, grammar.comments, grammar.lexes), tt), inr (parsed_alone bytes, inl (inl grammar)))
+first_alone bytes v (inr (inl grammar)) = inr (((grammar.first ∷ grammar.more, (grammar.comments, grammar.lexes)), tt), inr (parsed_alone bytes, inl (inl grammar)))
 first_alone bytes v (inr (inr rule)) =
     inr (
-      ((rule.text.tokens, rule.text.comments, rule.text.lexes), tt),
+      ((rule.text.tokens, (rule.text.comments, rule.text.lexes)), tt),
       inr (
         parsed_alone bytes,
         inr (
           ((rule.system, rule.text), tt),
           tree_first (sdl_file bytes ∷ []) v rule.system (inl (refl, rule.text, tt))
-          (by_some (first_of (violations_in Names rule.system)) (first_of (violations_in States rule.system)) (first_of (violations_in Limits rule.system)) v rule.first),
+              (by_some (first_of (violations_in Names rule.system)) (first_of (violations_in States rule.system)) (first_of (violations_in Limits rule.system)) v rule.first),
         ),
       ),
     )

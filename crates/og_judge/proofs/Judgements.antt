@@ -1,6 +1,6 @@
 -- Files are never both accepted and refused, and have one first violation and one model at most: class by class.
 use Rattle.std.proofs.Common.{◌≡◌, ◌∙◌, ℕ, ◌+◌, List, [], ◌∷◌, Option, Some, None, sym, ap, subst, refl, inl, inr}
-use Rattle.std.specs.Prelude.{◌⊎◌, ◌×◌}
+use Rattle.std.specs.Prelude.{◌⊎◌}
 use Rattle.og_base.specs.declared.Violation.{Violation}
 use Rattle.og_base.specs.Order.{first_of}
 use Rattle.og_lexer.specs.declared.Language.{Language}

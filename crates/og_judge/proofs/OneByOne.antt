@@ -12,11 +12,6 @@ use Rattle.og_judge.specs.Answers.{HasTokens, AreLexed}
 
 -- ---- files in front of one
 
-pub each_then : (Holds : ℕ → SourceFile → Type 0) (number : ℕ) (front : List SourceFile) (file : SourceFile) (at : ℕ) → at ≡ number + length front
-    → EachKeeps Holds number front → Holds at file → EachKeeps Holds number (front ++ file ∷ [])
-each_then Holds number [] file at e each holds = let same : at ≡ number = omega (arith, e) in (subst (λ n. Holds n file) same holds, tt)
-each_then Holds number (f ∷ front) file at e each holds = (each.0, each_then Holds (number + 1) front file at (omega (arith, e)) each.1 holds)
-
 pub first_behind : (Holds Breaks : ℕ → SourceFile → Type 0) (number : ℕ) (front : List SourceFile) (file : SourceFile) (back : List SourceFile) (at : ℕ) → at ≡ number + length front
     → EachKeeps Holds number front → Breaks at file → FirstBreaks Holds Breaks number (front ++ file ∷ back)
 first_behind Holds Breaks number [] file back at e each breaks = let same : at ≡ number = omega (arith, e) in inl (subst (λ n. Breaks n file) same breaks)

@@ -1,5 +1,5 @@
 -- What the parts of the judgement answer, put together.
-use Rattle.std.proofs.Common.{◌≡◌, ◌∙◌, ℕ, suc, true, ◌+◌, ◌<◌, ◌≤◌, ◌⊎◌, List, [], ◌∷◌, ◌++◌, length, take, drop, get_or, Option, Some, None, Result, Ok, Err, sym, ap, subst, refl, inl, inr, arith}
+use Rattle.std.proofs.Common.{◌≡◌, ◌∙◌, ℕ, suc, ◌+◌, ◌-◌, ◌^◌, ◌<◌, ◌≤◌, ◌⊎◌, List, [], ◌∷◌, ◌++◌, length, take, drop, get_or, Option, Some, None, Result, Ok, Err, sym, ap, subst, refl, inl, inr, arith}
 use Rattle.std.specs.Prelude.{IfOk, IfErr, unwrap_or}
 use Rattle.std.specs.List.{flat_map, AllByRecursion}
 use Rattle.og_base.specs.declared.ModelError.{ModelError}
@@ -10,11 +10,11 @@ use Rattle.og_lexer.specs.declared.Language.{Language}
 use Rattle.og_lexer.specs.declared.Language.TheVariants.{Sdl, Asn}
 use Rattle.og_lexer.specs.declared.Lexed.{Lexed}
 use Rattle.og_lexer.specs.declared.Spanned.{Spanned}
-use Rattle.og_lexer.specs.Texts.{LexesIn, RefusesIn}
+use Rattle.og_lexer.specs.Texts.{LexesIn, RefusesIn, EndsOnce}
 use Rattle.og_asn1.specs.Grammar.{FirstSyntactic}
 use Rattle.og_base.specs.declared.Rule.TheVariants.{F1}
 use Rattle.og_front.specs.Files.{IsTextOf, BreaksGrammar}
-use Rattle.std.proofs.lemmas.List.{append_assoc, append-nil}
+use Rattle.std.proofs.lemmas.List.{append_assoc, append-nil, length-map, take_all}
 use Rattle.og_asn1.specs.declared.syntax.ModuleTree.{ModuleTree}
 use Rattle.og_front.specs.declared.syntax.SystemText.{SystemText}
 use Rattle.og_front.specs.Grammar.{Spells}
@@ -25,9 +25,9 @@ use Rattle.og_front.proofs.ShortNames.{short_spelt}
 use Rattle.og_front.proofs.WrittenTrees.{written_spelt}
 use Rattle.og_model.specs.declared.Model.{Model}
 use Rattle.og_judge.specs.declared.ModelFile.{ModelFile}
-use Rattle.og_judge.specs.Judging.{SourceFile, source, sources, Names, States, Limits, Forms, Syntactic, Lexical, EachKeeps, FirstBreaks, IsLexed, BreaksLexis, AreOwnModules, LacksSyntax, HasForm, LacksForm, IsParsed, BreaksSyntax, AreModulesOf, IsBuilt, BreaksForms, AreAsn, HasOneProcess, AreTextOf, violations_in, KeepAll, IsFirstAmong, AreAccepted, IsFirstViolation, HaveModel, most_files}
+use Rattle.og_judge.specs.Judging.{SourceFile, source, sources, Names, States, Limits, Forms, Syntactic, Lexical, EachKeeps, FirstBreaks, IsLexed, BreaksLexis, AreOwnModules, LacksSyntax, HasForm, LacksForm, IsParsed, BreaksSyntax, AreModulesOf, IsBuilt, BreaksForms, AreAsn, HasOneProcess, AreTextOf, violations_in, AreShort, IsFirstAmong, AreAccepted, IsFirstViolation, HaveModel, most_files}
 use Rattle.og_judge.specs.Answers.{IsJudged, Refuses, HasTokens, AreLexed, BreakLexis, BreakSyntax, IsNoText, AreModulesIn, AreNoModules, IsTreeOf, BreakForms, IsBuiltFrom, IsFirstOfRules}
-use Rattle.og_judge.proofs.OneByOne.{each_then, first_behind, lexed_then, parted, one_more, in_front, lexed_at}
+use Rattle.og_judge.proofs.OneByOne.{as_many, first_behind, lexed_then, parted, one_more, in_front, lexed_at, short_at}
 
 -- ---- tokens
 
@@ -35,7 +35,7 @@ all_lexed : (number : ℕ) (files : List SourceFile) (texts : List Lexed) → Ar
 all_lexed number [] [] lexed = tt
 all_lexed number [] (t ∷ texts) lexed = absurd lexed
 all_lexed number (f ∷ files) [] lexed = absurd lexed
-all_lexed number (f ∷ files) (t ∷ texts) lexed = ((t.tokens, t.comments, lexed.0.lexes), all_lexed (number + 1) files texts lexed.1)
+all_lexed number (f ∷ files) (t ∷ texts) lexed = ((t.tokens, (t.comments, lexed.0.lexes)), all_lexed (number + 1) files texts lexed.1)
 
 -- one more file lexes
 pub next_lexed : (files : List ModelFile) (i : ℕ) (d : ModelFile) (texts new : List Lexed) (text : Lexed) → i < length files → d ≡ get_or files i d → AreLexed 0 (sources (take i files)) texts
@@ -45,6 +45,12 @@ next_lexed files i d texts new text less is lexed has same =
     let Q : List Lexed → Type 0 = λ ts. AreLexed 0 (sources (take (i + 1) files)) ts in
     let more : sources (take (i + 1) files) ≡ sources (take i files) ++ source d ∷ [] = one_more files i d less ∙ ap (λ f. sources (take i files) ++ source f ∷ []) (sym is) in
     subst Q (sym same) (subst P (sym more) (lexed_then 0 (sources (take i files)) (source d) texts text i (in_front files i less) lexed has))
+
+-- one of the files is short
+pub short_here : (files : List ModelFile) (i : ℕ) (d : ModelFile) → i < length files → d ≡ get_or files i d → AreShort (sources files) → length d.bytes.items < 2 ^ 32 - 1
+short_here files i d less is short =
+    let P : ModelFile → Type 0 = λ f. length f.bytes.items < 2 ^ 32 - 1 in
+    subst P (sym is) (short_at (λ (f : SourceFile). length f.bytes < 2 ^ 32 - 1) files i d less short)
 
 -- the files before one keep something that it breaks
 at_one : (Holds Breaks : ℕ → SourceFile → Type 0) (files : List ModelFile) (i : ℕ) (d : ModelFile) → i < length files → d ≡ get_or files i d → EachKeeps Holds 0 (sources (take i files)) → Breaks i (source d)
@@ -66,6 +72,16 @@ tokens_at files texts i d t less is text lexed =
     let P : ModelFile → Type 0 = λ f. HasTokens f.language i f.bytes.items t in
     let Q : Lexed → Type 0 = λ x. HasTokens (get_or files i d).language i (get_or files i d).bytes.items x in
     subst P (sym is) (subst Q (sym text) (lexed_at 0 files texts i d t i (omega arith) less lexed))
+
+pub below_texts : (files : List ModelFile) (texts : List Lexed) (i : ℕ) → i < length files → AreLexed 0 (sources files) texts → i < length texts
+below_texts files texts i less lexed =
+    let many = as_many 0 (sources files) texts lexed in
+    let same = length-map files source in
+    omega (arith, less, many, same)
+
+pub ends_at : (files : List ModelFile) (texts : List Lexed) (i : ℕ) (d : ModelFile) (t : Lexed) (tokens : List Spanned) → i < length files → d ≡ get_or files i d → t ≡ get_or texts i t → tokens ≡ t.tokens → AreLexed 0 (sources files) texts
+    → EndsOnce tokens
+ends_at files texts i d t tokens less is text same lexed = subst EndsOnce (sym same) (tokens_at files texts i d t less is text lexed).ends
 
 -- ---- modules
 
@@ -199,6 +215,21 @@ forms_broken files texts i d t tokens (Broken v) less is text same lexed all sdl
     at_one IsBuilt (BreaksForms v) files i d less is (built_if_asn 0 (sources (take i files)) all) (subst F (sym sdl) breaks)
 forms_broken files texts i d t tokens (NoMemory met) less is text same lexed all sdl none = tt
 
+-- the same of what a call answered
+pub tree_found_if : (files : List ModelFile) (texts : List Lexed) (i : ℕ) (d : ModelFile) (t : Lexed) (tokens : List Spanned) (result : Result SystemText ModelError) → i < length files → length files ≤ most_files → d ≡ get_or files i d → t ≡ get_or texts i t
+    → tokens ≡ t.tokens → AreLexed 0 (sources files) texts → HasOneProcess (sources files) → AreAsn (sources (take i files)) → d.language ≡ Sdl → IfOk result (λ system. Spells system tokens) → IfOk result (IsTreeOf (sources files))
+tree_found_if files texts i d t tokens (Ok system) less few is text same lexed one all sdl spells = tree_found files texts i d t tokens system less few is text same lexed one all sdl spells
+tree_found_if files texts i d t tokens (Err error) less few is text same lexed one all sdl spells = tt
+
+pub forms_broken_if : (files : List ModelFile) (texts : List Lexed) (i : ℕ) (d : ModelFile) (t : Lexed) (tokens : List Spanned) (result : Result SystemText ModelError) → i < length files → d ≡ get_or files i d → t ≡ get_or texts i t → tokens ≡ t.tokens
+    → AreLexed 0 (sources files) texts → AreAsn (sources (take i files)) → d.language ≡ Sdl → IfErr result (IsNoText tokens) → IfErr result (BreakForms (sources files))
+forms_broken_if files texts i d t tokens (Ok system) less is text same lexed all sdl none = tt
+forms_broken_if files texts i d t tokens (Err error) less is text same lexed all sdl none = forms_broken files texts i d t tokens error less is text same lexed all sdl none
+
+-- there is a file of SDL/PR among them all
+pub none_left_of : (files : List ModelFile) (i : ℕ) → (i < length files → ⊥) → HasOneProcess (sources files) → AreAsn (sources (take i files)) → ⊥
+none_left_of files i more one all = none_left (sources files) one (subst (λ fs. AreAsn (sources fs)) (take_all i files (omega (arith, more))) all)
+
 -- the first token, which the tokens have
 pub no_text : (tokens : List Spanned) (error : ModelError) → ((system : SystemText) → Spells system tokens → ⊥)
     → (first : Spanned) × (more : List Spanned) × (tokens ≡ first ∷ more) × (error ≡ Broken (record { rule = F1; place = first.place })) → IsNoText tokens error
@@ -283,3 +314,14 @@ judged files texts all system model lexed modules tree built =
       };
       can = built.can;
     }
+
+-- the same of what a call answered
+pub judged_if : (files : List SourceFile) (texts : List Lexed) (all : List ModuleTree) (system : SystemText) (result : Result Model ModelError) → AreLexed 0 files texts → AreModulesOf 0 files all → IsTreeOf files system
+    → IfOk result (IsBuiltFrom system) → IfOk result (IsJudged files)
+judged_if files texts all system (Ok model) lexed modules tree built = judged files texts all system model lexed modules tree built
+judged_if files texts all system (Err error) lexed modules tree built = tt
+
+pub rules_if : (files : List SourceFile) (texts : List Lexed) (all : List ModuleTree) (system : SystemText) (result : Result Model ModelError) → AreLexed 0 files texts → AreModulesOf 0 files all → IsTreeOf files system
+    → IfErr result (IsFirstOfRules system) → IfErr result (Refuses files)
+rules_if files texts all system (Ok model) lexed modules tree first = tt
+rules_if files texts all system (Err error) lexed modules tree first = rules_first files texts all system error lexed modules tree first

@@ -2,14 +2,16 @@
 ghost use Rattle.std.specs.Prelude.{◌≡◌, ◌≤◌, IfOk, IfErr, length};
 ghost use Rattle.og_front.specs.Names.{HasShortNames};
 ghost use Rattle.og_front.specs.Written.{IsWrittenTree};
-ghost use Rattle.og_judge.specs.Judging.{HasOneProcess, AreShort, most_files, sources};
-ghost use Rattle.og_judge.specs.Answers.{IsJudged, Refuses, IsBuiltFrom, IsFirstOfRules};
+ghost use Rattle.og_judge.specs.Judging.{HasOneProcess, AreShort, AreModulesOf, most_files, sources};
+ghost use Rattle.og_judge.specs.Answers.{IsJudged, Refuses, AreLexed, IsBuiltFrom, IsFirstOfRules};
 
 use crate::ModelFile;
 use crate::texts::lex_files;
 use crate::trees::{modules_of, tree_of};
+use og_asn1::ModuleTree;
 use og_base::ModelError;
 use og_front::{SystemText, first_violation, model_of, tables_of};
+use og_lexer::Lexed;
 use og_model::Model;
 use std::alloc::Global;
 
@@ -21,10 +23,44 @@ pub fn judge(alloc: Global, files: &[ModelFile]) -> Result<Model, ModelError>
     ensures accepted { IfOk result (IsJudged (sources files.now)) }
     ensures refused { IfErr result (Refuses (sources files.now)) }
 {
-    let texts = lex_files(alloc, files)?;
-    modules_of(alloc, files, texts.as_slice())?;
-    let system = tree_of(alloc, files, texts.as_slice())?;
-    model_of_system(alloc, &system)
+    match lex_files(alloc, files) {
+        Err(error) => Err(error),
+        Ok(texts) => judge_texts(alloc, files, texts.as_slice()),
+    }
+}
+
+/// The same, from the tokens of the files on.
+fn judge_texts(alloc: Global, files: &[ModelFile], texts: &[Lexed]) -> Result<Model, ModelError>
+    requires few { length files.now ≤ most_files }
+    requires one { HasOneProcess (sources files.now) }
+    requires lexed { AreLexed 0 (sources files.now) texts.now }
+    ensures accepted { IfOk result (IsJudged (sources files.now)) }
+    ensures refused { IfErr result (Refuses (sources files.now)) }
+{
+    match modules_of(alloc, files, texts) {
+        Err(error) => Err(error),
+        Ok(modules) => judge_modules(alloc, files, texts, modules.as_slice()),
+    }
+}
+
+/// The same, from the modules of the files on.
+fn judge_modules(
+    alloc: Global,
+    files: &[ModelFile],
+    texts: &[Lexed],
+    modules: &[ModuleTree],
+) -> Result<Model, ModelError>
+    requires few { length files.now ≤ most_files }
+    requires one { HasOneProcess (sources files.now) }
+    requires lexed { AreLexed 0 (sources files.now) texts.now }
+    requires parsed { AreModulesOf 0 (sources files.now) modules.now }
+    ensures accepted { IfOk result (IsJudged (sources files.now)) }
+    ensures refused { IfErr result (Refuses (sources files.now)) }
+{
+    match tree_of(alloc, files, texts) {
+        Err(error) => Err(error),
+        Ok(system) => model_of_system(alloc, &system),
+    }
 }
 
 /// The model of a tree that keeps the rules, or its first violation.

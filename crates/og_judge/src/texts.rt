@@ -19,8 +19,10 @@ pub fn lex_files(alloc: Global, files: &[ModelFile]) -> Result<Vec<Lexed>, Model
 {
     let mut texts = Vec::new(alloc);
     for (number, file) in files.iter().enumerate() {
-        let text = lex_file(alloc, number as u32, file)?;
-        keep(&mut texts, text)?;
+        match lex_file(alloc, number as u32, file) {
+            Err(error) => return Err(error),
+            Ok(text) => keep(&mut texts, text)?,
+        }
     }
     Ok(texts)
 }

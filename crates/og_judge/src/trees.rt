@@ -1,5 +1,5 @@
 //! The trees of model files.
-ghost use Rattle.std.specs.Prelude.{◌≡◌, ◌∷◌, ◌<◌, ◌≤◌, ℕ, List, IfOk, IfErr, OnOk, length};
+ghost use Rattle.std.specs.Prelude.{◌≡◌, ◌∷◌, ◌++◌, ◌<◌, ◌≤◌, ℕ, List, IfOk, IfErr, OnOk, length};
 ghost use Rattle.og_asn1.specs.declared.syntax.ModuleTree.{ModuleTree};
 ghost use Rattle.og_front.specs.declared.syntax.SystemText.{SystemText};
 ghost use Rattle.og_front.specs.Grammar.{Spells};
@@ -30,10 +30,20 @@ pub fn modules_of(
 {
     let mut modules = Items::new(alloc);
     for (number, file) in files.iter().enumerate() {
-        let own = modules_in(alloc, file.language, texts[number].tokens.as_slice())?;
-        modules.append(own)?;
+        match modules_in(alloc, file.language, texts[number].tokens.as_slice()) {
+            Err(error) => return Err(error),
+            Ok(own) => add(&mut modules, own)?,
+        }
     }
     Ok(modules)
+}
+
+/// Puts the modules of a file behind those of the files before it.
+fn add(modules: &mut Items<ModuleTree>, own: Items<ModuleTree>) -> Result<(), NoMemory>
+    ensures { OnOk result (modules.new ≡ modules.old ++ own) }
+{
+    modules.append(own)?;
+    Ok(())
 }
 
 /// The modules of a file, of which one of SDL/PR has none.
