@@ -227,8 +227,8 @@ forms_broken_if files texts i d t tokens (Ok system) less is text same lexed all
 forms_broken_if files texts i d t tokens (Err error) less is text same lexed all sdl none = forms_broken files texts i d t tokens error less is text same lexed all sdl none
 
 -- there is a file of SDL/PR among them all
-pub none_left_of : (files : List ModelFile) (i : ℕ) → (i < length files → ⊥) → HasOneProcess (sources files) → AreAsn (sources (take i files)) → ⊥
-none_left_of files i more one all = none_left (sources files) one (subst (λ fs. AreAsn (sources fs)) (take_all i files (omega (arith, more))) all)
+pub none_left_of : (files : List ModelFile) (i : ℕ) → length files ≤ i → HasOneProcess (sources files) → AreAsn (sources (take i files)) → ⊥
+none_left_of files i more one all = none_left (sources files) one (subst (λ fs. AreAsn (sources fs)) (take_all i files more) all)
 
 -- the first token, which the tokens have
 pub no_text : (tokens : List Spanned) (error : ModelError) → ((system : SystemText) → Spells system tokens → ⊥)

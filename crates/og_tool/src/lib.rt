@@ -16,8 +16,6 @@ pub use og_front::{
 };
 pub use og_judge::one_judgement;
 pub use og_words::{one_command, words_as_worked_out};
-pub use output_laws::{
-    agreeing_is_never_stuck, enough_is_enough, one_output, one_simulation,
-};
+pub use output_laws::{agreeing_is_never_stuck, enough_is_enough, one_output, one_simulation};
 pub use run::run_tool;
 pub use status::Status;
