@@ -40,13 +40,13 @@ use Rattle.og_asn1.specs.declared.syntax.ValueTree.{ValueTree}
 use Rattle.og_asn1.specs.declared.syntax.ValueNode.{ValueNode}
 use Rattle.og_asn1.specs.declared.syntax.ValueNode as written
 use Rattle.og_asn1.specs.declared.syntax.RunTree.{RunTree}
-use Rattle.og_asn1.specs.declared.view.NamedType.{NamedType}
-use Rattle.og_asn1.specs.declared.view.Constant.{Constant}
-use Rattle.og_asn1.specs.declared.view.DataView.{DataView}
+use Rattle.og_dataview.specs.declared.view.NamedType.{NamedType}
+use Rattle.og_dataview.specs.declared.view.Constant.{Constant}
+use Rattle.og_dataview.specs.declared.view.DataView.{DataView}
 use Rattle.og_asn1.specs.Kinds.{kind_of, kind_of_name}
 use Rattle.og_asn1.specs.Reading.{named}
-use Rattle.og_asn1.specs.Violations.{first_violation}
-use Rattle.og_asn1.specs.View.{view_of, names_after}
+use Rattle.og_dataview.specs.Violations.{first_violation}
+use Rattle.og_dataview.specs.View.{view_of, names_after}
 
 -- ---- texts
 
@@ -179,6 +179,17 @@ RangesIntersect =
       constants = [];
     })
 
+-- T ::= INTEGER (0 .. 9223372036854775808)   U ::= T (5 .. 20)   A ::= B (0 .. 5)   B ::= A   O ::= U (9 .. 5)
+abbrev pub OnlyWhatIsLeftCounts : Type 0
+OnlyWhatIsLeftCounts =
+    Views (declares 1 (codes "T") (integer (from_to 0 9223372036854775808)) ∷ declares 2 (codes "U") (narrowed 3 (codes "T") (from_to 5 20))
+    ∷ declares 4 (codes "A") (narrowed 5 (codes "B") (from_to 0 5)) ∷ declares 6 (codes "B") (ref 7 (codes "A")) ∷ declares 8 (codes "O") (narrowed 9 (codes "U") (from_to 9 5)) ∷ [])
+    (record {
+      types = sort.Int (pos 5) (pos 20) ∷ sort.Opaque ∷ sort.Opaque ∷ sort.Opaque ∷ [];
+      named = type_is 1 0 1 ∷ type_is 2 1 0 ∷ type_is 4 2 2 ∷ type_is 6 3 2 ∷ type_is 8 4 3 ∷ [];
+      constants = [];
+    })
+
 -- n T ::= 12   m INTEGER ::= n   c INTEGER ::= d   d INTEGER ::= c   b BOOLEAN ::= 1   T ::= INTEGER (0 .. n)   U ::= INTEGER (0 .. c)
 abbrev pub ConstantsAreFollowed : Type 0
 ConstantsAreFollowed =
@@ -240,14 +251,16 @@ UnknownNames =
     × Breaks (declares 1 (codes "U") (ref 2 (codes "Utf8String")) ∷ []) N1 2
     × Breaks (declares 1 (codes "T") (ref 2 (codes "N")) ∷ constant 3 (codes "n") any_integer (value_number 0) ∷ []) N3 2
     × Breaks (declares 1 (codes "T") (integer (word 2 (codes "t") ∷ [])) ∷ []) N3 2
-    × Breaks (declares 1 (codes "T") (integer (word 2 (codes "length") ∷ [])) ∷ []) N3 2
+    × Breaks (declares 1 (codes "T") (integer (word 2 (codes "write") ∷ [])) ∷ []) N3 2
+    × Breaks (declares 1 (codes "T") (ref 2 (codes "Length")) ∷ []) N3 2
 
--- the name as the value of a constant that is no INTEGER, and words like MAX in a range, are not looked for
+-- the name as the value of a constant that is no INTEGER, and words like MAX in a range, are not looked for; the operators are there
 abbrev pub NamesThatAreNotLookedFor : Type 0
 NamesThatAreNotLookedFor =
     (first_violation (one_module (constant 1 (codes "b") truth (value_name 2 (codes "m")) ∷ [])) ≡ None)
     × (first_violation (one_module (declares 1 (codes "T") (integer (minus ∷ word 2 (codes "k") ∷ [])) ∷ [])) ≡ None)
     × (first_violation (one_module (declares 1 (codes "T") (integer (number 0 ∷ dots ∷ word 2 (codes "MAX") ∷ [])) ∷ [])) ≡ None)
+    × (first_violation (one_module (declares 1 (codes "T") (integer (number 0 ∷ dots ∷ word 2 (codes "length") ∷ [])) ∷ [])) ≡ None)
 
 -- T-a T-a | T-a T_a | Boolean | { a, a } | { a-b, a-B } | { a (1), b (1) } | one that is spelt as the first and folds as the second
 abbrev pub NamesTwice : Type 0

@@ -5,9 +5,9 @@ use Rattle.std.specs.Prelude.{ℕ, Bool, ◌||◌, List, [], ◌∷◌, map, Opt
 use Rattle.std.specs.List.{list_any}
 use Rattle.std.specs.Str.{bytes_eq}
 use Rattle.og_names.specs.Folding.{folded, place_of}
-use Rattle.og_asn1.specs.declared.flat.Flat.{Flat}
-use Rattle.og_asn1.specs.declared.flat.TypeNode.{TypeNode}
-use Rattle.og_asn1.specs.declared.flat.ConstantNode.{ConstantNode}
+use Rattle.og_dataview.specs.declared.flat.Flat.{Flat}
+use Rattle.og_dataview.specs.declared.flat.TypeNode.{TypeNode}
+use Rattle.og_dataview.specs.declared.flat.ConstantNode.{ConstantNode}
 use Rattle.og_asn1.specs.declared.syntax.Name.{Name}
 
 -- the form in which a name is compared
@@ -52,9 +52,16 @@ predefined = codes "NumericString" ∷ codes "PrintableString" ∷ codes "IA5Str
 abbrev pub is_predefined : Name → Bool
 is_predefined name = list_any (bytes_eq name.word.bytes) predefined
 
--- the procedures and operators of SDL/PR that stand outside all scopes
+-- the procedures of SDL/PR that stand outside all scopes
 abbrev pub procedures : List (List ℕ)
-procedures = codes "set_timer" ∷ codes "reset_timer" ∷ codes "append" ∷ codes "write" ∷ codes "writeln" ∷ codes "length" ∷ codes "present" ∷ []
+procedures = codes "set_timer" ∷ codes "reset_timer" ∷ codes "append" ∷ codes "write" ∷ codes "writeln" ∷ []
 
 abbrev pub is_procedure : Name → Bool
 is_procedure name = list_any (bytes_eq (key name)) procedures
+
+-- its operators, whose names are of the kind of those of variables and constants
+abbrev pub operators : List (List ℕ)
+operators = codes "length" ∷ codes "present" ∷ []
+
+abbrev pub is_operator : Name → Bool
+is_operator name = list_any (bytes_eq (key name)) operators

@@ -1,5 +1,5 @@
 //! Modules laid out flat: the types of all modules in one list, where a type names the types in it by their numbers there.
-use crate::syntax::Name;
+use og_asn1::Name;
 use sqlite_items::Items;
 
 /// An end of a range: a number as it is written, or a constant.

@@ -7,15 +7,15 @@ use Rattle.og_asn1.specs.declared.syntax.BaseTree.TheViews.{out-BaseTree, out-Co
 use Rattle.og_asn1.specs.declared.syntax.ValueNode.TheViews.{out-ValueNode}
 use Rattle.og_asn1.specs.Kinds.{kind_of, kind_of_name}
 use Rattle.og_asn1.specs.Reading.{named}
-use Rattle.og_asn1.proofs.laws.violations.Goals as goal
+use Rattle.og_dataview.proofs.laws.violations.Goals as goal
 
 pub returns-clause-unknown : goal.returns-clause-unknown
 unfolding class_of kind_of kind_of_name named the_depth depth fold out out-BaseTree out-ValueNode
-returns-clause-unknown c = (refl, refl, refl, refl, refl, refl, refl)
+returns-clause-unknown c = (refl, refl, refl, refl, refl, refl, refl, refl)
 
 pub returns-clause-not_looked_for : goal.returns-clause-not_looked_for
 unfolding class_of kind_of kind_of_name named the_depth depth fold out out-BaseTree out-ValueNode
-returns-clause-not_looked_for c = (refl, refl, refl)
+returns-clause-not_looked_for c = (refl, refl, refl, refl)
 
 pub returns-clause-twice : goal.returns-clause-twice
 unfolding class_of kind_of kind_of_name named the_depth depth fold out out-BaseTree out-CompTree shown hidden shown-the_row-CompTree-0 shape-the_row-CompTree-0 hidden-the_row-CompTree-0 out-ValueNode

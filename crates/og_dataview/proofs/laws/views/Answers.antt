@@ -7,7 +7,7 @@ use Rattle.og_asn1.specs.declared.syntax.BaseTree.TheViews.{out-BaseTree, out-Co
 use Rattle.og_asn1.specs.declared.syntax.ValueNode.TheViews.{out-ValueNode}
 use Rattle.og_asn1.specs.Kinds.{kind_of, kind_of_name}
 use Rattle.og_asn1.specs.Reading.{named}
-use Rattle.og_asn1.proofs.laws.views.Goals as goal
+use Rattle.og_dataview.proofs.laws.views.Goals as goal
 
 pub returns-clause-enumerators : goal.returns-clause-enumerators
 unfolding class_of kind_of kind_of_name named the_depth depth fold out out-BaseTree
@@ -20,6 +20,10 @@ returns-clause-below_zero c = (refl, refl)
 pub returns-clause-ranges : goal.returns-clause-ranges
 unfolding class_of kind_of kind_of_name named the_depth depth fold out out-BaseTree
 returns-clause-ranges c = (refl, refl)
+
+pub returns-clause-left : goal.returns-clause-left
+unfolding class_of kind_of kind_of_name named the_depth depth fold out out-BaseTree
+returns-clause-left c = (refl, refl)
 
 pub returns-clause-constants : goal.returns-clause-constants
 unfolding class_of kind_of kind_of_name named the_depth depth fold out out-BaseTree out-ValueNode

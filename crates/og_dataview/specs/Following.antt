@@ -1,25 +1,26 @@
 -- What references, constants and ranges come to. A reference names a declared type, which may be a reference again (X.680 clause
 -- 16.3); a constant may be given by another one (clause 17.4); the values of a type with ranges are those that lie in all of them (clauses 49.2 and 51.4).
--- A way along names that does not end goes round, and then as many steps as there are names end on it.
-use Rattle.std.specs.Prelude.{ℕ, zero, suc, Bool, true, false, ◌&&◌, length, Option, Some, None, unwrap_or, slice_get, ℤ, int_le, if◌then◌else◌}
+-- A way along names that does not end goes round, and then as many steps as there are names, and one more, end on it.
+use Rattle.std.specs.Prelude.{ℕ, zero, suc, Bool, true, false, ◌&&◌, length, Option, Some, None, unwrap_or, slice_get, ℤ, pos, negsuc, int_le, if◌then◌else◌}
 use Rattle.std.specs.Option.{option_map, option_and_then}
 use Rattle.og_types.specs.Table.{in_64_bits}
-use Rattle.og_asn1.specs.declared.flat.Flat.{Flat}
-use Rattle.og_asn1.specs.declared.flat.Bound.{Bound}
-use Rattle.og_asn1.specs.declared.flat.Bound.TheVariants as bound
-use Rattle.og_asn1.specs.declared.flat.Range.{Range}
-use Rattle.og_asn1.specs.declared.flat.Limits.{Limits}
-use Rattle.og_asn1.specs.declared.flat.Limits.TheVariants as limits
-use Rattle.og_asn1.specs.declared.flat.Written.{Written}
-use Rattle.og_asn1.specs.declared.flat.Node.{Node}
-use Rattle.og_asn1.specs.declared.flat.Node.TheVariants as node
-use Rattle.og_asn1.specs.declared.flat.TypeNode.{TypeNode}
-use Rattle.og_asn1.specs.declared.flat.ConstantNode.{ConstantNode}
-use Rattle.og_asn1.specs.declared.flat.ConstantValue.{ConstantValue}
-use Rattle.og_asn1.specs.declared.flat.ConstantValue.TheVariants as value
+use Rattle.og_dataview.specs.declared.numbers.Interval.{Interval}
+use Rattle.og_dataview.specs.declared.flat.Flat.{Flat}
+use Rattle.og_dataview.specs.declared.flat.Bound.{Bound}
+use Rattle.og_dataview.specs.declared.flat.Bound.TheVariants as bound
+use Rattle.og_dataview.specs.declared.flat.Range.{Range}
+use Rattle.og_dataview.specs.declared.flat.Limits.{Limits}
+use Rattle.og_dataview.specs.declared.flat.Limits.TheVariants as limits
+use Rattle.og_dataview.specs.declared.flat.Written.{Written}
+use Rattle.og_dataview.specs.declared.flat.Node.{Node}
+use Rattle.og_dataview.specs.declared.flat.Node.TheVariants as node
+use Rattle.og_dataview.specs.declared.flat.TypeNode.{TypeNode}
+use Rattle.og_dataview.specs.declared.flat.ConstantNode.{ConstantNode}
+use Rattle.og_dataview.specs.declared.flat.ConstantValue.{ConstantValue}
+use Rattle.og_dataview.specs.declared.flat.ConstantValue.TheVariants as value
 use Rattle.og_asn1.specs.declared.syntax.Name.{Name}
-use Rattle.og_asn1.specs.Limits.{signed}
-use Rattle.og_asn1.specs.Scope.{find_type, find_constant, is_integer}
+use Rattle.og_dataview.specs.Limits.{signed}
+use Rattle.og_dataview.specs.Scope.{find_type, find_constant, is_declared_type, is_integer}
 
 -- ---- ways
 
@@ -45,7 +46,7 @@ next_type flat p = unwrap_or (named_by flat (slice_get flat.nodes p)) p
 
 -- the type that a type is when all references are followed
 abbrev pub end_of : Flat → ℕ → ℕ
-end_of flat p = walk (next_type flat) (length flat.types) p
+end_of flat p = walk (next_type flat) (suc (length flat.types)) p
 
 -- INTEGER, with or without a bracket
 abbrev pub is_integer_node : Flat → Option Node → Bool
@@ -77,7 +78,7 @@ next_constant flat i = constant_after flat i (slice_get flat.constants i)
 
 -- the constant by which a constant is given in the end
 abbrev pub last_constant : Flat → ℕ → ℕ
-last_constant flat i = walk (next_constant flat) (length flat.constants) i
+last_constant flat i = walk (next_constant flat) (suc (length flat.constants)) i
 
 abbrev pub as_number : Written → ℤ
 as_number n = signed n.is_negative n.digits
@@ -100,11 +101,6 @@ number_of flat i = own_number flat (slice_get flat.constants (last_constant flat
 
 -- ---- ranges
 
--- the numbers from one to another
-pub record Interval : Type 0 where
-  pub lo : ℤ
-  pub hi : ℤ
-
 abbrev pub bound_of : Flat → Bound → Option ℤ
 bound_of flat (bound.Number is_negative digits) = Some (signed is_negative digits)
 bound_of flat (bound.Named name) = option_and_then (number_of flat) (find_constant flat name)
@@ -120,9 +116,8 @@ interval_of flat range = from_to (bound_of flat range.lo) (bound_of flat range.h
 abbrev pub is_usable : Interval → Bool
 is_usable i = in_64_bits i.lo && (in_64_bits i.hi && int_le i.lo i.hi)
 
-abbrev pub usable : Option Interval → Option Interval
-usable None = None
-usable (Some i) = if is_usable i then Some i else None
+abbrev pub usable : Interval → Option Interval
+usable i = if is_usable i then Some i else None
 
 abbrev pub greater : ℤ → ℤ → ℤ
 greater a b = if int_le a b then b else a
@@ -131,31 +126,50 @@ abbrev pub lesser : ℤ → ℤ → ℤ
 lesser a b = if int_le a b then a else b
 
 -- the numbers that are in both
-abbrev pub both : Option Interval → Option Interval → Option Interval
-both (Some i) (Some j) = Some (record { lo = greater i.lo j.lo; hi = lesser i.hi j.hi })
-both _ _ = None
+abbrev pub both : Interval → Interval → Interval
+both i j = record { lo = greater i.lo j.lo; hi = lesser i.hi j.hi }
 
--- INTEGER with a bracket
-abbrev pub bounds_of_integer : Flat → Limits → Option Interval
-bounds_of_integer flat (limits.Range range) = usable (interval_of flat range)
-bounds_of_integer flat _ = None
+-- no number
+abbrev pub nothing : Interval
+nothing = record { lo = pos 1; hi = pos 0 }
 
--- a reference with or without a bracket, to a type with these bounds
-abbrev pub bounds_of_reference : Flat → Limits → Option Interval → Option Interval
-bounds_of_reference flat limits.Absent inside = inside
-bounds_of_reference flat (limits.Range range) inside = usable (both inside (interval_of flat range))
-bounds_of_reference flat _ inside = None
+-- each number that a token can have, with each sign
+abbrev pub everything : Interval
+everything = record { lo = negsuc 18446744073709551615; hi = pos 18446744073709551616 }
 
-abbrev pub bounds_by : Flat → (ℕ → Option Interval) → Option Node → Option Interval
-bounds_by flat inside (Some (node.Integer limits)) = bounds_of_integer flat limits
-bounds_by flat inside (Some (node.Reference name limits)) = bounds_of_reference flat limits (option_and_then inside (node_of flat name))
-bounds_by flat inside _ = None
+-- the numbers in a range, of which each bound has a number
+abbrev pub in_range : Flat → Range → Interval
+in_range flat range = unwrap_or (interval_of flat range) nothing
 
--- the bounds of a type, following this many references
-abbrev pub bounds_within : Flat → ℕ → ℕ → Option Interval
-bounds_within flat zero p = None
-bounds_within flat (suc n) p = bounds_by flat (bounds_within flat n) (slice_get flat.nodes p)
+-- the numbers that INTEGER with this bracket has: without one it has no bounds
+abbrev pub of_integer : Flat → Limits → Interval
+of_integer flat (limits.Range range) = in_range flat range
+of_integer flat _ = nothing
+
+-- those that a bracket behind a reference leaves of the numbers of the type that it names
+abbrev pub of_reference : Flat → Limits → Interval
+of_reference flat limits.Absent = everything
+of_reference flat (limits.Range range) = in_range flat range
+of_reference flat _ = nothing
+
+-- a name that is not declared is that of no type with bounds
+abbrev pub own_numbers : Flat → Option Node → Interval
+own_numbers flat (Some (node.Integer limits)) = of_integer flat limits
+own_numbers flat (Some (node.Reference name limits)) = if is_declared_type flat name then of_reference flat limits else nothing
+own_numbers flat _ = nothing
+
+abbrev pub numbers_at : Flat → ℕ → Interval
+numbers_at flat p = own_numbers flat (slice_get flat.nodes p)
+
+-- the numbers that are left on a way of so many steps: those of each place on it
+abbrev pub numbers_on : (ℕ → ℕ) → (ℕ → Interval) → ℕ → ℕ → Interval
+numbers_on next own zero p = own p
+numbers_on next own (suc n) p = both (own p) (numbers_on next own n (next p))
+
+-- the numbers of an integer type: those that all its ranges leave
+abbrev pub numbers_of : Flat → ℕ → Interval
+numbers_of flat p = numbers_on (next_type flat) (numbers_at flat) (length flat.types) p
 
 -- the least and the greatest number of an integer type, where it has them
 abbrev pub bounds : Flat → ℕ → Option Interval
-bounds flat p = bounds_within flat (suc (length flat.types)) p
+bounds flat p = if is_integer_type flat p then usable (numbers_of flat p) else None

@@ -9,21 +9,21 @@ use Rattle.og_base.specs.declared.Rule.{Rule}
 use Rattle.og_base.specs.declared.Rule.TheVariants.{N1, N2, N3, N7}
 use Rattle.og_base.specs.declared.Violation.{Violation}
 use Rattle.og_base.specs.Order.{first_of}
-use Rattle.og_asn1.specs.declared.flat.Bound.{Bound}
-use Rattle.og_asn1.specs.declared.flat.Bound.TheVariants as bound
-use Rattle.og_asn1.specs.declared.flat.Range.{Range}
-use Rattle.og_asn1.specs.declared.flat.Limits.{Limits}
-use Rattle.og_asn1.specs.declared.flat.Limits.TheVariants as limits
-use Rattle.og_asn1.specs.declared.flat.Enumerator.{Enumerator}
-use Rattle.og_asn1.specs.declared.flat.Written.{Written}
-use Rattle.og_asn1.specs.declared.flat.PartNode.{PartNode}
-use Rattle.og_asn1.specs.declared.flat.Node.{Node}
-use Rattle.og_asn1.specs.declared.flat.Node.TheVariants as node
-use Rattle.og_asn1.specs.declared.flat.TypeNode.{TypeNode}
-use Rattle.og_asn1.specs.declared.flat.ConstantNode.{ConstantNode}
-use Rattle.og_asn1.specs.declared.flat.ConstantValue.{ConstantValue}
-use Rattle.og_asn1.specs.declared.flat.ConstantValue.TheVariants as value
-use Rattle.og_asn1.specs.declared.flat.Flat.{Flat}
+use Rattle.og_dataview.specs.declared.flat.Bound.{Bound}
+use Rattle.og_dataview.specs.declared.flat.Bound.TheVariants as bound
+use Rattle.og_dataview.specs.declared.flat.Range.{Range}
+use Rattle.og_dataview.specs.declared.flat.Limits.{Limits}
+use Rattle.og_dataview.specs.declared.flat.Limits.TheVariants as limits
+use Rattle.og_dataview.specs.declared.flat.Enumerator.{Enumerator}
+use Rattle.og_dataview.specs.declared.flat.Written.{Written}
+use Rattle.og_dataview.specs.declared.flat.PartNode.{PartNode}
+use Rattle.og_dataview.specs.declared.flat.Node.{Node}
+use Rattle.og_dataview.specs.declared.flat.Node.TheVariants as node
+use Rattle.og_dataview.specs.declared.flat.TypeNode.{TypeNode}
+use Rattle.og_dataview.specs.declared.flat.ConstantNode.{ConstantNode}
+use Rattle.og_dataview.specs.declared.flat.ConstantValue.{ConstantValue}
+use Rattle.og_dataview.specs.declared.flat.ConstantValue.TheVariants as value
+use Rattle.og_dataview.specs.declared.flat.Flat.{Flat}
 use Rattle.og_asn1.specs.declared.syntax.Name.{Name}
 use Rattle.og_asn1.specs.declared.syntax.ModuleTree.{ModuleTree}
 use Rattle.og_asn1.specs.declared.syntax.ImportsTree.{ImportsTree}
@@ -32,9 +32,9 @@ use Rattle.og_asn1.specs.declared.syntax.SymbolTree.{SymbolTree}
 use Rattle.og_asn1.specs.declared.syntax.SymbolTree.TheVariants as symbol
 use Rattle.og_asn1.specs.declared.syntax.AssignmentTree.{AssignmentTree}
 use Rattle.og_asn1.specs.declared.syntax.AssignmentTree.TheVariants as assignment
-use Rattle.og_asn1.specs.Flattening.{flat_of}
-use Rattle.og_asn1.specs.Scope.{key, is_declared_type, is_declared_constant, is_built_in, is_predefined, is_procedure}
-use Rattle.og_asn1.specs.Following.{is_integer_type, as_number}
+use Rattle.og_dataview.specs.Flattening.{flat_of}
+use Rattle.og_dataview.specs.Scope.{key, is_declared_type, is_declared_constant, is_built_in, is_predefined, is_procedure, is_operator}
+use Rattle.og_dataview.specs.Following.{is_integer_type, as_number}
 
 abbrev pub violated : Rule → Name → Violation
 violated rule name = record { rule = rule; place = name.place }
@@ -95,11 +95,11 @@ looked_up own other name = if own then [] else (if other then violated N3 name �
 
 abbrev pub used_type : Flat → Name → List Violation
 used_type flat name =
-    looked_up (is_declared_type flat name || (is_built_in name || is_predefined name)) (is_declared_constant flat name || is_procedure name) name
+    looked_up (is_declared_type flat name || (is_built_in name || is_predefined name)) (is_declared_constant flat name || (is_procedure name || is_operator name)) name
 
 abbrev pub used_constant : Flat → Name → List Violation
 used_constant flat name =
-    looked_up (is_declared_constant flat name) (is_declared_type flat name || (is_built_in name || is_procedure name)) name
+    looked_up (is_declared_constant flat name || is_operator name) (is_declared_type flat name || (is_built_in name || is_procedure name)) name
 
 abbrev pub used_by_bound : Flat → Bound → List Violation
 used_by_bound flat (bound.Number is_negative digits) = []

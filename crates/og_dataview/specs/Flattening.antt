@@ -1,17 +1,17 @@
 -- Modules laid out flat: the types of all modules in one list, each behind the types in it, and the types and constants that the
 -- modules declare, in the order of the text. Tags are left out, since they change nothing.
 use Rattle.std.specs.Prelude.{ℕ, zero, suc, ◌+◌, ◌-◌, Bool, true, false, ◌&&◌, ◌||◌, List, [], ◌∷◌, ◌++◌, length, Option, Some, None, is_none}
-use Rattle.og_asn1.specs.declared.flat.Enumerator.{Enumerator}
-use Rattle.og_asn1.specs.declared.flat.Written.{Written}
-use Rattle.og_asn1.specs.declared.flat.PartNode.{PartNode}
-use Rattle.og_asn1.specs.declared.flat.Node.{Node}
-use Rattle.og_asn1.specs.declared.flat.Node.TheVariants as node
-use Rattle.og_asn1.specs.declared.flat.Limits.TheVariants as limits
-use Rattle.og_asn1.specs.declared.flat.TypeNode.{TypeNode}
-use Rattle.og_asn1.specs.declared.flat.ConstantNode.{ConstantNode}
-use Rattle.og_asn1.specs.declared.flat.ConstantValue.{ConstantValue}
-use Rattle.og_asn1.specs.declared.flat.ConstantValue.TheVariants as value
-use Rattle.og_asn1.specs.declared.flat.Flat.{Flat}
+use Rattle.og_dataview.specs.declared.flat.Enumerator.{Enumerator}
+use Rattle.og_dataview.specs.declared.flat.Written.{Written}
+use Rattle.og_dataview.specs.declared.flat.PartNode.{PartNode}
+use Rattle.og_dataview.specs.declared.flat.Node.{Node}
+use Rattle.og_dataview.specs.declared.flat.Node.TheVariants as node
+use Rattle.og_dataview.specs.declared.flat.Limits.TheVariants as limits
+use Rattle.og_dataview.specs.declared.flat.TypeNode.{TypeNode}
+use Rattle.og_dataview.specs.declared.flat.ConstantNode.{ConstantNode}
+use Rattle.og_dataview.specs.declared.flat.ConstantValue.{ConstantValue}
+use Rattle.og_dataview.specs.declared.flat.ConstantValue.TheVariants as value
+use Rattle.og_dataview.specs.declared.flat.Flat.{Flat}
 use Rattle.og_asn1.specs.declared.syntax.Name.{Name}
 use Rattle.og_asn1.specs.declared.syntax.ModuleTree.{ModuleTree}
 use Rattle.og_asn1.specs.declared.syntax.AssignmentTree.{AssignmentTree}
@@ -30,7 +30,7 @@ use Rattle.og_asn1.specs.declared.syntax.PresenceTree.TheVariants as presence
 use Rattle.og_asn1.specs.declared.syntax.ValueTree.{ValueTree, out-ValueTree}
 use Rattle.og_asn1.specs.declared.syntax.ValueNode.{ValueNode, ValueNode-F, out-ValueNode}
 use Rattle.og_asn1.specs.declared.syntax.ValueNode.TheOpen as written
-use Rattle.og_asn1.specs.Limits.{limits_of, limits_of_size}
+use Rattle.og_dataview.specs.Limits.{limits_of, limits_of_size}
 
 -- ---- enumerators
 
@@ -117,6 +117,10 @@ opened parts = record { nodes = parts.nodes; parts = parts.parts; is_plain = fal
 abbrev pub parts_by : (ℕ → TypeTree → List Node) → ℕ → CompTree-F BaseTree CompTree OfTree TypeTree → (ℕ → Parts) → Parts
 parts_by inside n (base.Part name kind presence) more = let nodes = inside n kind in with_part n name presence nodes (more (n + length nodes))
 parts_by inside n (base.Extension place) more = opened (more n)
+
+-- one part alone, behind n types
+abbrev pub one_part : (ℕ → TypeTree → List Node) → ℕ → CompTree → Parts
+one_part inside n c = parts_by inside n (out-CompTree c) (λ m. no_parts)
 
 abbrev pub parts_of : (ℕ → TypeTree → List Node) → List CompTree → ℕ → Parts
 parts_of inside [] n = no_parts

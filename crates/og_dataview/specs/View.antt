@@ -11,19 +11,20 @@ use Rattle.og_types.specs.declared.Part.{Part}
 use Rattle.og_types.specs.declared.Sort.{Sort}
 use Rattle.og_types.specs.declared.Sort.TheVariants as sort
 use Rattle.og_types.specs.Table.{in_64_bits, is_empty}
-use Rattle.og_asn1.specs.declared.flat.Limits.{Limits}
-use Rattle.og_asn1.specs.declared.flat.Limits.TheVariants as limits
-use Rattle.og_asn1.specs.declared.flat.Enumerator.{Enumerator}
-use Rattle.og_asn1.specs.declared.flat.Written.{Written}
-use Rattle.og_asn1.specs.declared.flat.PartNode.{PartNode}
-use Rattle.og_asn1.specs.declared.flat.Node.{Node}
-use Rattle.og_asn1.specs.declared.flat.Node.TheVariants as node
-use Rattle.og_asn1.specs.declared.flat.TypeNode.{TypeNode}
-use Rattle.og_asn1.specs.declared.flat.ConstantNode.{ConstantNode}
-use Rattle.og_asn1.specs.declared.flat.Flat.{Flat}
-use Rattle.og_asn1.specs.declared.view.NamedType.{NamedType}
-use Rattle.og_asn1.specs.declared.view.Constant.{Constant}
-use Rattle.og_asn1.specs.declared.view.DataView.{DataView}
+use Rattle.og_dataview.specs.declared.flat.Limits.{Limits}
+use Rattle.og_dataview.specs.declared.flat.Limits.TheVariants as limits
+use Rattle.og_dataview.specs.declared.flat.Enumerator.{Enumerator}
+use Rattle.og_dataview.specs.declared.flat.Written.{Written}
+use Rattle.og_dataview.specs.declared.flat.PartNode.{PartNode}
+use Rattle.og_dataview.specs.declared.flat.Node.{Node}
+use Rattle.og_dataview.specs.declared.flat.Node.TheVariants as node
+use Rattle.og_dataview.specs.declared.flat.TypeNode.{TypeNode}
+use Rattle.og_dataview.specs.declared.flat.ConstantNode.{ConstantNode}
+use Rattle.og_dataview.specs.declared.flat.Flat.{Flat}
+use Rattle.og_dataview.specs.declared.numbers.Interval.{Interval}
+use Rattle.og_dataview.specs.declared.view.NamedType.{NamedType}
+use Rattle.og_dataview.specs.declared.view.Constant.{Constant}
+use Rattle.og_dataview.specs.declared.view.DataView.{DataView}
 use Rattle.og_asn1.specs.declared.syntax.Name.{Name}
 use Rattle.og_asn1.specs.declared.syntax.ModuleTree.{ModuleTree}
 use Rattle.og_asn1.specs.declared.syntax.AssignmentTree.{AssignmentTree}
@@ -34,10 +35,10 @@ use Rattle.og_asn1.specs.declared.syntax.BaseTree.TheOpen as base
 use Rattle.og_asn1.specs.declared.syntax.BaseTree.TheOpen.{CompTree-F}
 use Rattle.og_asn1.specs.declared.syntax.OfTree.{OfTree, out-OfTree}
 use Rattle.og_asn1.specs.declared.syntax.CompTree.{CompTree, out-CompTree}
-use Rattle.og_asn1.specs.Flattening.{enumerators_of, flat_of}
-use Rattle.og_asn1.specs.Scope.{key, find_type, is_boolean}
-use Rattle.og_asn1.specs.Following.{Interval, walk, node_of, as_number, bounds, interval_of, number_of}
-use Rattle.og_asn1.specs.Violations.{given, is_given}
+use Rattle.og_dataview.specs.Flattening.{enumerators_of, flat_of}
+use Rattle.og_dataview.specs.Scope.{key, find_type, is_boolean}
+use Rattle.og_dataview.specs.Following.{walk, node_of, as_number, bounds, interval_of, number_of}
+use Rattle.og_dataview.specs.Violations.{given, is_given}
 
 -- ---- names
 
@@ -118,9 +119,13 @@ other_name flat _ = None
 abbrev pub next_same : Flat → ℕ → ℕ
 next_same flat p = unwrap_or (other_name flat (slice_get flat.nodes p)) p
 
+-- where a way has come to, if it ends there
+abbrev pub ended_at : Flat → ℕ → ℕ → ℕ
+ended_at flat p e = if next_same flat e == e then e else p
+
 -- the type with which a type shares its number: itself where the way does not end
 abbrev pub same_as : Flat → ℕ → ℕ
-same_as flat p = let e = walk (next_same flat) (length flat.types) p in if next_same flat e == e then e else p
+same_as flat p = ended_at flat p (walk (next_same flat) (suc (length flat.types)) p)
 
 -- ---- forms
 

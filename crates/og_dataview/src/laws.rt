@@ -1,11 +1,12 @@
 //! Worked examples, computed from the definitions. Each function does nothing, and its contract says what the definitions give.
-ghost use Rattle.og_asn1.specs.ViewExamples.{FreeNumbersInOrder, NumbersBelowZeroAndOpenOnes, RangesIntersect, ConstantsAreFollowed, TypesComeByDepth, OpaqueTypesAreFound, NamesWithoutDeclaration, UnknownNames, NamesThatAreNotLookedFor, NamesTwice, NamesOfDifferentLists, ImportsAreChecked};
+ghost use Rattle.og_dataview.specs.ViewExamples.{FreeNumbersInOrder, NumbersBelowZeroAndOpenOnes, RangesIntersect, OnlyWhatIsLeftCounts, ConstantsAreFollowed, TypesComeByDepth, OpaqueTypesAreFound, NamesWithoutDeclaration, UnknownNames, NamesThatAreNotLookedFor, NamesTwice, NamesOfDifferentLists, ImportsAreChecked};
 
 /// Views of modules.
 pub fn views()
     ensures enumerators { FreeNumbersInOrder }
     ensures below_zero { NumbersBelowZeroAndOpenOnes }
     ensures ranges { RangesIntersect }
+    ensures left { OnlyWhatIsLeftCounts }
     ensures constants { ConstantsAreFollowed }
     ensures depth { TypesComeByDepth }
     ensures opaque { OpaqueTypesAreFound }
