@@ -14,10 +14,9 @@ use Rattle.og_asn1.specs.declared.syntax.SymbolTree.TheVariants as symbol
 use Rattle.og_asn1.specs.declared.syntax.AssignmentTree.{AssignmentTree}
 use Rattle.og_asn1.specs.declared.syntax.AssignmentTree.TheVariants as assignment
 use Rattle.og_dataview.specs.declared.imports.Exported.{Exported}
-use Rattle.og_dataview.specs.declared.imports.Pairs.{Pairs}
 use Rattle.og_dataview.specs.Scope.{key}
 use Rattle.og_dataview.specs.Violations.{looked_up, first_symbol, folds_as, declares_type, declares_constant, has_type, has_constant, modules_named, imported_symbol, imported_from, in_import, in_imports, in_module}
-use Rattle.og_dataview.specs.Exported.{has, is_type_of, is_constant_of, types_in, constants_in, IsExported, symbol_by, import_by, module_by}
+use Rattle.og_dataview.specs.Exported.{has, is_type_of, is_constant_of, types_in, constants_in, IsExported, symbol_by, import_by, imports_by, module_by}
 
 -- ---- tests
 
@@ -66,20 +65,20 @@ exporting_all now ms i le exporting = record {
 
 -- ---- one declaration more, of a module with this name
 
-pub record Declaring (first now : Pairs) (k : List ℕ) (is_of : List ℕ → AssignmentTree → Bool) (xs : List AssignmentTree) (i : ℕ) : Type 0 where
+pub record Declaring (first now : List (List ℕ × List ℕ)) (k : List ℕ) (is_of : List ℕ → AssignmentTree → Bool) (xs : List AssignmentTree) (i : ℕ) : Type 0 where
   pub each : (a b : List ℕ) → Left (λ ys. has now a b || (bytes_eq a k && list_any (is_of b) ys)) xs i (has first a b || (bytes_eq a k && list_any (is_of b) xs))
 
-pub declaring_first : (first : Pairs) (k : List ℕ) (is_of : List ℕ → AssignmentTree → Bool) (xs : List AssignmentTree) → Declaring first first k is_of xs 0
+pub declaring_first : (first : List (List ℕ × List ℕ)) (k : List ℕ) (is_of : List ℕ → AssignmentTree → Bool) (xs : List AssignmentTree) → Declaring first first k is_of xs 0
 declaring_first first k is_of xs = record { each = λ a b. left_first (λ ys. has first a b || (bytes_eq a k && list_any (is_of b) ys)) xs }
 
-pub declaring_more : (first now next : Pairs) (k : List ℕ) (is_of : List ℕ → AssignmentTree → Bool) (xs : List AssignmentTree) (i : ℕ) (x : AssignmentTree) → i < length xs → x ≡ get_or xs i x
+pub declaring_more : (first now next : List (List ℕ × List ℕ)) (k : List ℕ) (is_of : List ℕ → AssignmentTree → Bool) (xs : List AssignmentTree) (i : ℕ) (x : AssignmentTree) → i < length xs → x ≡ get_or xs i x
     → ((a b : List ℕ) → has next a b ≡ (has now a b || (bytes_eq a k && is_of b x))) → Declaring first now k is_of xs i → Declaring first next k is_of xs (i + 1)
 declaring_more first now next k is_of xs i x lt at is before = record {
   each = λ a b. left_more (λ ys. has now a b || (bytes_eq a k && list_any (is_of b) ys)) (λ ys. has next a b || (bytes_eq a k && list_any (is_of b) ys)) xs i x _ lt at
       (λ ys. and_or (has now a b) (bytes_eq a k) (is_of b x) (list_any (is_of b) ys) ∙ ap (λ (t : Bool). t || (bytes_eq a k && list_any (is_of b) ys)) (sym (is a b))) (before.each a b);
 }
 
-pub declaring_all : (first now : Pairs) (k : List ℕ) (is_of : List ℕ → AssignmentTree → Bool) (xs : List AssignmentTree) (i : ℕ) → length xs ≤ i → Declaring first now k is_of xs i
+pub declaring_all : (first now : List (List ℕ × List ℕ)) (k : List ℕ) (is_of : List ℕ → AssignmentTree → Bool) (xs : List AssignmentTree) (i : ℕ) → length xs ≤ i → Declaring first now k is_of xs i
     → (a b : List ℕ) → has now a b ≡ (has first a b || (bytes_eq a k && list_any (is_of b) xs))
 declaring_all first now k is_of xs i le declaring a b =
     sym (and_nothing (has now a b) (bytes_eq a k)) ∙ left_all (λ ys. has now a b || (bytes_eq a k && list_any (is_of b) ys)) xs i _ le (declaring.each a b)
@@ -88,19 +87,78 @@ pub ruleset exports = (exporting_more, exporting_all, declaring_first, declaring
 
 -- ---- what the modules of a name declare
 
-module _ {X : Type 0} (p : X → Bool) where
-  any_of_filter : (q : X → Bool) (xs : List X) → list_any q (filter p xs) ≡ list_any (λ x. p x && q x) xs
-  any_of_filter q [] = refl
-  any_of_filter q (x ∷ xs) = by (p x) (any_of_filter q xs)
-    where
-      by : (b : Bool) {m n : Bool} → m ≡ n → list_any q (if b then x ∷ filter p xs else filter p xs) ≡ ((b && q x) || n)
-      by true e = ?
-      by false e = ?
+taken : {X : Type 0} (q : X → Bool) (b : Bool) (x : X) (ys : List X) → list_any q (if b then x ∷ ys else ys) ≡ ((b && q x) || list_any q ys)
+taken q true x ys = refl
+taken q false x ys = refl
+
+any_of_filter : {X : Type 0} (p q : X → Bool) (xs : List X) → list_any q (filter p xs) ≡ list_any (λ x. p x && q x) xs
+any_of_filter p q [] = refl
+any_of_filter p q (x ∷ xs) = taken q (p x) x (filter p xs) ∙ ap (λ (b : Bool). (p x && q x) || b) (any_of_filter p q xs)
 
 any_same : {X : Type 0} (p q : X → Bool) (xs : List X) → ((x : X) → p x ≡ q x) → list_any p xs ≡ list_any q xs
 any_same p q [] h = refl
 any_same p q (x ∷ xs) h = λ i. h x i || any_same p q xs h i
 
-flat_map_same : {X Y : Type 0} (f g : X → List Y) (xs : List X) → ((x : X) → f x ≡ g x) → flat_map f xs ≡ flat_map g xs
+pub flat_map_same : {X Y : Type 0} (f g : X → List Y) (xs : List X) → ((x : X) → f x ≡ g x) → flat_map f xs ≡ flat_map g xs
 flat_map_same f g [] h = refl
 flat_map_same f g (x ∷ xs) h = λ i. h x i ++ flat_map_same f g xs h i
+
+type_same : (name : Name) (a : AssignmentTree) → declares_type name a ≡ is_type_of (key name) a
+type_same name (assignment.Type declared is) = refl
+type_same name (assignment.Value declared of is) = refl
+
+constant_same : (name : Name) (a : AssignmentTree) → declares_constant name a ≡ is_constant_of (key name) a
+constant_same name (assignment.Type declared is) = refl
+constant_same name (assignment.Value declared of is) = refl
+
+has_type_by : (modules : List ModuleTree) (of name : Name) → has_type (modules_named modules of) name ≡ list_any (types_in (key of) (key name)) modules
+has_type_by modules of name =
+    any_of_filter (λ (m : ModuleTree). folds_as of m.name) (λ (m : ModuleTree). list_any (declares_type name) m.assignments) modules
+    ∙ any_same _ (types_in (key of) (key name)) modules (λ m. ap (λ (b : Bool). bytes_eq (key of) (key m.name) && b) (any_same (declares_type name) (is_type_of (key name)) m.assignments (type_same name)))
+
+has_constant_by : (modules : List ModuleTree) (of name : Name) → has_constant (modules_named modules of) name ≡ list_any (constants_in (key of) (key name)) modules
+has_constant_by modules of name =
+    any_of_filter (λ (m : ModuleTree). folds_as of m.name) (λ (m : ModuleTree). list_any (declares_constant name) m.assignments) modules
+    ∙ any_same _ (constants_in (key of) (key name)) modules (λ m. ap (λ (b : Bool). bytes_eq (key of) (key m.name) && b) (any_same (declares_constant name) (is_constant_of (key name)) m.assignments (constant_same name)))
+
+-- ---- violations
+
+module _ (modules : List ModuleTree) (exported : Exported) (is : IsExported modules exported) where
+  type_is : (of name : Name) → has exported.types (key of) (key name) ≡ has_type (modules_named modules of) name
+  type_is of name = is.types (key of) (key name) ∙ sym (has_type_by modules of name)
+
+  constant_is : (of name : Name) → has exported.constants (key of) (key name) ≡ has_constant (modules_named modules of) name
+  constant_is of name = is.constants (key of) (key name) ∙ sym (has_constant_by modules of name)
+
+  symbol_is : (of : Name) (s : SymbolTree) → symbol_by exported of s ≡ imported_symbol (modules_named modules of) s
+  symbol_is of (symbol.Type name) = λ i. looked_up (type_is of name i) (constant_is of name i) name
+  symbol_is of (symbol.Value name) = λ i. looked_up (constant_is of name i) (type_is of name i) name
+
+  -- whether any module has the name is whether the list of those that have it is not empty
+  from_named : (symbols : List SymbolTree) (some : List Violation) (named : List ModuleTree) (b : Bool) → list_any (λ (m : ModuleTree). true) named ≡ b → (named' : List ModuleTree) → named ≡ named'
+      → some ≡ flat_map (imported_symbol named') symbols → (if b then some else first_symbol symbols) ≡ imported_from named' symbols
+  from_named symbols some named b e [] same f = rw (sym e, same) refl
+  from_named symbols some named b e (m ∷ ms) same f = rw (sym e, same) f
+
+  import_is : (import : ImportTree) → import_by exported import ≡ in_import modules import
+  import_is import =
+      from_named import.symbols (flat_map (symbol_by exported import.module) import.symbols) (modules_named modules import.module) (is_some (place_of exported.modules (key import.module)))
+          (any_of_filter (λ (m : ModuleTree). folds_as import.module m.name) (λ m. true) modules
+              ∙ any_same _ (λ (m : ModuleTree). bytes_eq (key import.module) (key m.name)) modules (λ m. and_true (bytes_eq (key import.module) (key m.name)))
+              ∙ sym (is.modules (key import.module)))
+          (modules_named modules import.module) refl
+          (flat_map_same _ _ import.symbols (symbol_is import.module))
+    where
+      and_true : (b : Bool) → (b && true) ≡ b
+      and_true true = refl
+      and_true false = refl
+
+  imports_is : (o : Option ImportsTree) → imports_by exported o ≡ in_imports modules o
+  imports_is None = refl
+  imports_is (Some i) = flat_map_same (import_by exported) (in_import modules) i.imports import_is
+
+  module_is : (m : ModuleTree) → module_by exported m ≡ in_module modules m
+  module_is m = imports_is m.imports
+
+pub imports_are : (modules : List ModuleTree) (exported : Exported) → IsExported modules exported → (ms : List ModuleTree) → flat_map (module_by exported) ms ≡ flat_map (in_module modules) ms
+imports_are modules exported is ms = flat_map_same (module_by exported) (in_module modules) ms (module_is modules exported is)

@@ -1,1 +1,7 @@
 pub mod Layers
+pub mod Listing
+pub mod Tables
+pub mod Short
+pub mod Indexing
+pub mod Noting
+pub mod Exports

@@ -13,13 +13,12 @@ use Rattle.og_asn1.specs.declared.syntax.SymbolTree.TheVariants as symbol
 use Rattle.og_asn1.specs.declared.syntax.AssignmentTree.{AssignmentTree}
 use Rattle.og_asn1.specs.declared.syntax.AssignmentTree.TheVariants as assignment
 use Rattle.og_dataview.specs.declared.imports.Exported.{Exported}
-use Rattle.og_dataview.specs.declared.imports.Pairs.{Pairs}
 use Rattle.og_dataview.specs.Scope.{key}
 use Rattle.og_dataview.specs.Violations.{looked_up, first_symbol}
 
 -- whether a pair is of this module and of this name
-abbrev pub has : Pairs → List ℕ → List ℕ → Bool
-has pairs a b = list_any (λ pair. bytes_eq a pair.0.items && bytes_eq b pair.1.items) pairs.keys
+abbrev pub has : List (List ℕ × List ℕ) → List ℕ → List ℕ → Bool
+has pairs a b = list_any (λ (pair : List ℕ × List ℕ). bytes_eq a pair.0 && bytes_eq b pair.1) pairs
 
 abbrev pub is_type_of : List ℕ → AssignmentTree → Bool
 is_type_of b (assignment.Type declared is) = bytes_eq b (key declared)
@@ -54,9 +53,9 @@ abbrev pub import_by : Exported → ImportTree → List Violation
 import_by exported import =
     if is_some (place_of exported.modules (key import.module)) then flat_map (symbol_by exported import.module) import.symbols else first_symbol import.symbols
 
+abbrev pub imports_by : Exported → Option ImportsTree → List Violation
+imports_by exported None = []
+imports_by exported (Some i) = flat_map (import_by exported) i.imports
+
 abbrev pub module_by : Exported → ModuleTree → List Violation
-module_by exported m = by m.imports
-  where
-    by : Option ImportsTree → List Violation
-    by None = []
-    by (Some i) = flat_map (import_by exported) i.imports
+module_by exported m = imports_by exported m.imports

@@ -16,9 +16,13 @@ is_spelt names bytes = list_any (λ (n : Name). bytes_eq bytes n.word.bytes) nam
 abbrev pub is_folded : List Name → List ℕ → Bool
 is_folded names bytes = list_any (λ (n : Name). bytes_eq bytes (key n)) names
 
+-- whether a word is one of these
+abbrev pub has_word : List (List ℕ) → List ℕ → Bool
+has_word words bytes = list_any (bytes_eq bytes) words
+
 -- the sets have the spellings and the folded forms of these names
 pub record IsMet (names : List Name) (met : Met) : Type 0 where
-  pub spelt : (bytes : List ℕ) → list_any (λ word. bytes_eq bytes word.items) met.spelt.keys ≡ is_spelt names bytes
+  pub spelt : (bytes : List ℕ) → has_word met.spelt bytes ≡ is_spelt names bytes
   pub folded : (bytes : List ℕ) → is_some (place_of met.folded bytes) ≡ is_folded names bytes
 
 -- the set has these numbers

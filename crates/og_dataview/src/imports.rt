@@ -1,5 +1,5 @@
 //! IMPORTS: whether each module has the symbols that are imported from it.
-ghost use Rattle.std.specs.Prelude.{◌≡◌, ◌||◌, ◌&&◌, List, ℕ, IfOk, OnOk, is_some};
+ghost use Rattle.std.specs.Prelude.{◌≡◌, [], ◌||◌, ◌&&◌, List, ℕ, IfOk, OnOk, is_some};
 ghost use Rattle.std.specs.List.{flat_map, list_any};
 ghost use Rattle.std.specs.Str.{bytes_eq};
 ghost use Rattle.og_base.specs.Order.{first_from};
@@ -16,9 +16,21 @@ use og_asn1::{AssignmentTree, ImportTree, ModuleTree, Name, SymbolTree};
 use og_base::{Rule, Violation};
 use og_names::{Names, NoMemory};
 use std::alloc::Global;
+use std::marker::Model;
 
 /// Names of modules with names that they declare, all of them folded.
-pub type Pairs = IndexSet<(Vec<u8>, Vec<u8>)>;
+#[derive(Drop)]
+pub struct Pairs {
+    set: IndexSet<(Vec<u8>, Vec<u8>)>,
+}
+
+impl Model for Pairs {
+    ghost use Rattle.std.specs.Prelude.{ℕ, List, map};
+
+    ghost Value = { List (List ℕ × List ℕ) };
+
+    ghost view = { λ p. map (λ pair. (pair.0.items, pair.1.items)) p.set.keys };
+}
 
 /// What each module declares.
 #[derive(Drop)]
@@ -34,8 +46,8 @@ pub fn exported_of(alloc: Global, modules: &[ModuleTree]) -> Result<Exported, No
 {
     let mut exported = Exported {
         modules: Names::new(alloc),
-        types: IndexSet::new(alloc),
-        constants: IndexSet::new(alloc),
+        types: Pairs::new(alloc),
+        constants: Pairs::new(alloc),
     };
     for module in modules {
         exported.add_module(alloc, module)?;
@@ -51,53 +63,58 @@ fn folded(alloc: Global, name: &Name) -> Result<Vec<u8>, NoMemory>
     Ok(bytes.iter().map(|byte| fold_byte(*byte)).collect(alloc)?)
 }
 
-/// Adds a name that a module declares.
-fn add_pair(
-    alloc: Global,
-    pairs: &mut Pairs,
-    module: &Name,
-    name: &Name,
-) -> Result<(), NoMemory>
-    ensures { OnOk result ((a b : List ℕ) → has pairs.new a b ≡ (has pairs.old a b || (bytes_eq a (key module.now) && bytes_eq b (key name.now)))) }
-{
-    let module = folded(alloc, module)?;
-    let name = folded(alloc, name)?;
-    pairs.insert_full((module, name))?;
-    Ok(())
-}
+impl Pairs {
+    fn new(alloc: Global) -> Pairs
+        ensures { result ≡ [] }
+    {
+        Pairs {
+            set: IndexSet::new(alloc),
+        }
+    }
 
-/// Whether a module of this name declares the name.
-fn has(alloc: Global, pairs: &Pairs, module: &Name, name: &Name) -> Result<bool, NoMemory>
-    ensures { IfOk result (λ there. there ≡ has pairs.now (key module.now) (key name.now)) }
-{
-    let module = folded(alloc, module)?;
-    let name = folded(alloc, name)?;
-    let pair = (module, name);
-    Ok(pairs.contains(&pair))
+    /// Adds a name that a module declares.
+    fn add(&mut self, alloc: Global, of: &Name, name: &Name) -> Result<(), NoMemory>
+        ensures { OnOk result ((a b : List ℕ) → has self.new a b ≡ (has self.old a b || (bytes_eq a (key of.now) && bytes_eq b (key name.now)))) }
+    {
+        let of = folded(alloc, of)?;
+        let name = folded(alloc, name)?;
+        self.set.insert_full((of, name))?;
+        Ok(())
+    }
+
+    /// Whether a module of this name declares the name.
+    fn has(&self, alloc: Global, of: &Name, name: &Name) -> Result<bool, NoMemory>
+        ensures { IfOk result (λ there. there ≡ has self.now (key of.now) (key name.now)) }
+    {
+        let of = folded(alloc, of)?;
+        let name = folded(alloc, name)?;
+        let pair = (of, name);
+        Ok(self.set.contains(&pair))
+    }
 }
 
 impl Exported {
-    fn add_module(&mut self, alloc: Global, module: &ModuleTree) -> Result<(), NoMemory>
-        ensures modules { OnOk result ((a : List ℕ) → is_some (place_of self.new.modules a) ≡ (is_some (place_of self.old.modules a) || bytes_eq a (key module.now.name))) }
-        ensures types { OnOk result ((a b : List ℕ) → has self.new.types a b ≡ (has self.old.types a b || types_in a b module.now)) }
-        ensures constants { OnOk result ((a b : List ℕ) → has self.new.constants a b ≡ (has self.old.constants a b || constants_in a b module.now)) }
+    fn add_module(&mut self, alloc: Global, tree: &ModuleTree) -> Result<(), NoMemory>
+        ensures modules { OnOk result ((a : List ℕ) → is_some (place_of self.new.modules a) ≡ (is_some (place_of self.old.modules a) || bytes_eq a (key tree.now.name))) }
+        ensures types { OnOk result ((a b : List ℕ) → has self.new.types a b ≡ (has self.old.types a b || types_in a b tree.now)) }
+        ensures constants { OnOk result ((a b : List ℕ) → has self.new.constants a b ≡ (has self.old.constants a b || constants_in a b tree.now)) }
     {
-        add_name(&mut self.modules, &module.name)?;
-        self.add_all(alloc, &module.name, module.assignments.as_slice())
+        add_name(&mut self.modules, &tree.name)?;
+        self.add_all(alloc, &tree.name, tree.assignments.as_slice())
     }
 
     fn add_all(
         &mut self,
         alloc: Global,
-        module: &Name,
+        of: &Name,
         assignments: &[AssignmentTree],
     ) -> Result<(), NoMemory>
         ensures modules { self.new.modules ≡ self.old.modules }
-        ensures types { OnOk result ((a b : List ℕ) → has self.new.types a b ≡ (has self.old.types a b || (bytes_eq a (key module.now) && list_any (is_type_of b) assignments.now))) }
-        ensures constants { OnOk result ((a b : List ℕ) → has self.new.constants a b ≡ (has self.old.constants a b || (bytes_eq a (key module.now) && list_any (is_constant_of b) assignments.now))) }
+        ensures types { OnOk result ((a b : List ℕ) → has self.new.types a b ≡ (has self.old.types a b || (bytes_eq a (key of.now) && list_any (is_type_of b) assignments.now))) }
+        ensures constants { OnOk result ((a b : List ℕ) → has self.new.constants a b ≡ (has self.old.constants a b || (bytes_eq a (key of.now) && list_any (is_constant_of b) assignments.now))) }
     {
         for assignment in assignments {
-            self.add_one(alloc, module, assignment)?;
+            self.add_one(alloc, of, assignment)?;
         }
         Ok(())
     }
@@ -105,23 +122,21 @@ impl Exported {
     fn add_one(
         &mut self,
         alloc: Global,
-        module: &Name,
+        of: &Name,
         assignment: &AssignmentTree,
     ) -> Result<(), NoMemory>
         ensures modules { self.new.modules ≡ self.old.modules }
-        ensures types { OnOk result ((a b : List ℕ) → has self.new.types a b ≡ (has self.old.types a b || (bytes_eq a (key module.now) && is_type_of b assignment.now))) }
-        ensures constants { OnOk result ((a b : List ℕ) → has self.new.constants a b ≡ (has self.old.constants a b || (bytes_eq a (key module.now) && is_constant_of b assignment.now))) }
+        ensures types { OnOk result ((a b : List ℕ) → has self.new.types a b ≡ (has self.old.types a b || (bytes_eq a (key of.now) && is_type_of b assignment.now))) }
+        ensures constants { OnOk result ((a b : List ℕ) → has self.new.constants a b ≡ (has self.old.constants a b || (bytes_eq a (key of.now) && is_constant_of b assignment.now))) }
     {
         match assignment {
-            AssignmentTree::Type { name, .. } => add_pair(alloc, &mut self.types, module, name),
-            AssignmentTree::Value { name, .. } => {
-                add_pair(alloc, &mut self.constants, module, name)
-            }
+            AssignmentTree::Type { name, .. } => self.types.add(alloc, of, name),
+            AssignmentTree::Value { name, .. } => self.constants.add(alloc, of, name),
         }
     }
 
     /// The violations in the IMPORTS of modules.
-    #[tactic(auto, using(crate::proofs::Notes::notes))]
+    #[tactic(auto, using(crate::proofs::Noting::notes))]
     pub fn note_modules(
         &self,
         alloc: Global,
@@ -139,18 +154,18 @@ impl Exported {
     fn note_module(
         &self,
         alloc: Global,
-        module: &ModuleTree,
+        tree: &ModuleTree,
         first: &mut Option<Violation>,
     ) -> Result<(), NoMemory>
-        ensures { OnOk result (first.new ≡ first_from first.old (module_by self.now module.now)) }
+        ensures { OnOk result (first.new ≡ first_from first.old (module_by self.now tree.now)) }
     {
-        if let Some(imports) = &module.imports {
+        if let Some(imports) = &tree.imports {
             self.note_imports(alloc, imports.imports.as_slice(), first)?;
         }
         Ok(())
     }
 
-    #[tactic(auto, using(crate::proofs::Notes::notes))]
+    #[tactic(auto, using(crate::proofs::Noting::notes))]
     fn note_imports(
         &self,
         alloc: Global,
@@ -183,18 +198,18 @@ impl Exported {
         Ok(())
     }
 
-    #[tactic(auto, using(crate::proofs::Notes::notes))]
+    #[tactic(auto, using(crate::proofs::Noting::notes))]
     fn note_symbols(
         &self,
         alloc: Global,
-        module: &Name,
+        of: &Name,
         symbols: &[SymbolTree],
         first: &mut Option<Violation>,
     ) -> Result<(), NoMemory>
-        ensures { OnOk result (first.new ≡ first_from first.old (flat_map (symbol_by self.now module.now) symbols.now)) }
+        ensures { OnOk result (first.new ≡ first_from first.old (flat_map (symbol_by self.now of.now) symbols.now)) }
     {
         for symbol in symbols {
-            self.note_symbol(alloc, module, symbol, first)?;
+            self.note_symbol(alloc, of, symbol, first)?;
         }
         Ok(())
     }
@@ -202,22 +217,22 @@ impl Exported {
     fn note_symbol(
         &self,
         alloc: Global,
-        module: &Name,
+        of: &Name,
         symbol: &SymbolTree,
         first: &mut Option<Violation>,
     ) -> Result<(), NoMemory>
-        ensures { OnOk result (first.new ≡ first_from first.old (symbol_by self.now module.now symbol.now)) }
+        ensures { OnOk result (first.new ≡ first_from first.old (symbol_by self.now of.now symbol.now)) }
     {
         match symbol {
             SymbolTree::Type(name) => {
-                let own = has(alloc, &self.types, module, name)?;
-                let other = has(alloc, &self.constants, module, name)?;
+                let own = self.types.has(alloc, of, name)?;
+                let other = self.constants.has(alloc, of, name)?;
                 note_looked_up(own, other, name, first);
                 Ok(())
             }
             SymbolTree::Value(name) => {
-                let own = has(alloc, &self.constants, module, name)?;
-                let other = has(alloc, &self.types, module, name)?;
+                let own = self.constants.has(alloc, of, name)?;
+                let other = self.types.has(alloc, of, name)?;
                 note_looked_up(own, other, name, first);
                 Ok(())
             }

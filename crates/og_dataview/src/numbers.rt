@@ -1,7 +1,7 @@
 //! Numbers from one to another.
 ghost use Rattle.std.specs.Prelude.{◌≡◌};
 ghost use Rattle.og_dataview.specs.Limits.{signed};
-ghost use Rattle.og_dataview.specs.Following.{both as the_numbers_in_both, usable as the_usable, nothing as no_numbers, everything as all_numbers, is_usable, is_size};
+ghost use Rattle.og_dataview.specs.Following.{both as the_numbers_in_both};
 
 /// The numbers from the first to the second, both of them among these. There are none where the second is less.
 #[derive(Clone, Copy, Debug, PartialEq, Eq)]

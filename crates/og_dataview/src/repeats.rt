@@ -1,11 +1,11 @@
 //! N2 and N7: names, and numbers of enumerators, that were met before in the same list.
-ghost use Rattle.std.specs.Prelude.{◌≡◌, ◌∷◌, [], ◌++◌, List, ℤ, ℕ, map, IfOk, OnOk};
-ghost use Rattle.std.specs.Ordering.{int_eq};
+ghost use Rattle.std.specs.Prelude.{◌≡◌, ◌∷◌, [], ◌++◌, ◌||◌, List, ℤ, ℕ, map, not, IfOk, OnOk};
+ghost use Rattle.std.specs.Str.{bytes_eq};
 ghost use Rattle.og_asn1.specs.declared.syntax.Name.{Name};
 ghost use Rattle.og_base.specs.Order.{first_from};
 ghost use Rattle.og_dataview.specs.Following.{as_number};
-ghost use Rattle.og_dataview.specs.Violations.{repeated, repeated_names, violated_if, is_given, given, given_again, repeated_numbers};
-ghost use Rattle.og_dataview.specs.Met.{IsMet, AreMet};
+ghost use Rattle.og_dataview.specs.Violations.{repeated, repeated_names, given, given_again, repeated_numbers};
+ghost use Rattle.og_dataview.specs.Met.{has_word, IsMet, AreMet};
 
 use crate::flat::{ConstantNode, Enumerator, PartNode, TypeNode, Written};
 use crate::index::add_name;
@@ -16,6 +16,7 @@ use og_asn1::Name;
 use og_base::{Rule, Violation};
 use og_names::{Names, NoMemory};
 use std::alloc::Global;
+use std::marker::Model;
 
 /// What is declared by a name.
 pub trait Declared {
@@ -60,8 +61,42 @@ impl Declared for Enumerator {
 /// Names that were met, as they are spelt and as they are compared.
 #[derive(Drop)]
 pub struct Met {
-    pub spelt: IndexSet<Vec<u8>>,
+    pub spelt: Spellings,
     pub folded: Names,
+}
+
+/// Spellings of names.
+#[derive(Drop)]
+pub struct Spellings {
+    set: IndexSet<Vec<u8>>,
+}
+
+impl Model for Spellings {
+    ghost use Rattle.std.specs.Prelude.{ℕ, List, map};
+
+    ghost Value = { List (List ℕ) };
+
+    ghost view = { λ s. map (λ word. word.items) s.set.keys };
+}
+
+impl Spellings {
+    fn new(alloc: Global) -> Spellings
+        ensures { result ≡ [] }
+    {
+        Spellings {
+            set: IndexSet::new(alloc),
+        }
+    }
+
+    /// Adds a spelling, and says whether it is a new one.
+    fn add(&mut self, alloc: Global, name: &Name) -> Result<bool, NoMemory>
+        ensures new { IfOk result (λ is_new. is_new ≡ not (has_word self.old name.now.word.bytes)) }
+        ensures more { OnOk result ((bytes : List ℕ) → has_word self.new bytes ≡ (has_word self.old bytes || bytes_eq bytes name.now.word.bytes)) }
+    {
+        let spelling = Vec::from_slice(alloc, name.word.bytes.as_slice())?;
+        let (_, is_new) = self.set.insert_full(spelling)?;
+        Ok(is_new)
+    }
 }
 
 /// The first violation among names of one list, where a name is spelt like an earlier one, or folds like one.
@@ -73,7 +108,7 @@ pub fn note_repeated_names<T: Declared>(
     ensures { OnOk result (first.new ≡ first_from first.old (repeated_names (map T.name_of declared.now))) }
 {
     let mut met = Met {
-        spelt: IndexSet::new(alloc),
+        spelt: Spellings::new(alloc),
         folded: Names::new(alloc),
     };
     for one in declared {
@@ -94,8 +129,7 @@ fn note_repeated(
 {
     let bytes = name.word.bytes.as_slice();
     let folds = met.folded.find(bytes).is_some();
-    let spelling = Vec::from_slice(alloc, bytes)?;
-    let (_, is_new) = met.spelt.insert_full(spelling)?;
+    let is_new = met.spelt.add(alloc, name)?;
     add_name(&mut met.folded, name)?;
     if is_new {
         note_if(folds, Rule::N7, name, first);

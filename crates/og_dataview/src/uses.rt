@@ -43,7 +43,7 @@ impl Scope {
         }
     }
 
-    #[tactic(auto, using(crate::proofs::Notes::notes))]
+    #[tactic(auto, using(crate::proofs::Noting::notes))]
     fn note_range(&self, range: &Range, first: &mut Option<Violation>)
         ensures { first.new ≡ first_from first.old (used_by_range self.now.flat range.now) }
     {
@@ -84,7 +84,7 @@ impl Scope {
         }
     }
 
-    #[tactic(auto, using(crate::proofs::Notes::notes))]
+    #[tactic(auto, using(crate::proofs::Noting::notes))]
     fn note_each_part(&self, parts: &[PartNode], first: &mut Option<Violation>)
         ensures { first.new ≡ first_from first.old (flat_map (used_by_part self.now.flat) parts.now) }
     {
@@ -93,7 +93,7 @@ impl Scope {
         }
     }
 
-    #[tactic(auto, using(crate::proofs::Notes::notes))]
+    #[tactic(auto, using(crate::proofs::Noting::notes))]
     fn note_parts(
         &self,
         alloc: Global,
@@ -108,7 +108,7 @@ impl Scope {
     }
 
     /// The violations in one type, its parts left aside.
-    #[tactic(auto, using(crate::proofs::Notes::notes))]
+    #[tactic(auto, using(crate::proofs::Noting::notes))]
     fn note_node(
         &self,
         alloc: Global,
@@ -142,7 +142,7 @@ impl Scope {
         }
     }
 
-    #[tactic(auto, using(crate::proofs::Notes::notes))]
+    #[tactic(auto, using(crate::proofs::Noting::notes))]
     fn note_nodes(&self, alloc: Global, first: &mut Option<Violation>) -> Result<(), NoMemory>
         ensures { OnOk result (first.new ≡ first_from first.old (flat_map (in_node self.now.flat) self.now.flat.nodes)) }
     {
@@ -152,7 +152,7 @@ impl Scope {
         Ok(())
     }
 
-    #[tactic(auto, using(crate::proofs::Notes::notes))]
+    #[tactic(auto, using(crate::proofs::Noting::notes))]
     fn note_constants(&self, first: &mut Option<Violation>)
         ensures { first.new ≡ first_from first.old (flat_map (used_by_constant self.now.flat) self.now.flat.constants) }
     {
@@ -162,7 +162,7 @@ impl Scope {
     }
 
     /// All violations of what is declared.
-    #[tactic(auto, using(crate::proofs::Notes::notes))]
+    #[tactic(auto, using(crate::proofs::Noting::notes))]
     pub fn note_all(&self, alloc: Global, first: &mut Option<Violation>) -> Result<(), NoMemory>
         ensures { OnOk result (first.new ≡ first_from first.old (in_flat self.now.flat)) }
     {
@@ -176,7 +176,7 @@ impl Scope {
 }
 
 /// N7 at types with the name of one that needs no declaration.
-#[tactic(auto, using(crate::proofs::Notes::notes))]
+#[tactic(auto, using(crate::proofs::Noting::notes))]
 fn note_built_in_again(types: &[TypeNode], first: &mut Option<Violation>)
     ensures { first.new ≡ first_from first.old (flat_map built_in_again types.now) }
 {

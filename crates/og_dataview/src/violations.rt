@@ -24,7 +24,7 @@ pub fn first_violation(
 }
 
 /// The first violation in modules whose scope is this one.
-#[tactic(auto, using(crate::proofs::Notes::notes, crate::proofs::Exports::imports_are))]
+#[tactic(auto, using(crate::proofs::Noting::notes, crate::proofs::Exports::imports_are))]
 pub fn first_in(
     alloc: Global,
     scope: &Scope,

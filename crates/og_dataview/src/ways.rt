@@ -1,6 +1,7 @@
 //! Ways along names, for all places at once: where each leads to in so many steps, found by halving the number of steps.
 ghost use Rattle.std.specs.Prelude.{◌≡◌, ◌+◌, suc, ℕ, IfOk, length};
 ghost use Rattle.og_dataview.specs.declared.numbers.Interval.{Interval};
+ghost use Rattle.og_dataview.specs.Following.{both};
 ghost use Rattle.og_dataview.specs.Ways.{step_in, numbers_in, Leads, IsWay};
 
 use crate::numbers::{Interval, NOTHING};
