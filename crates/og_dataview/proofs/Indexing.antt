@@ -15,7 +15,7 @@ pub place_within : (names : List (List ℕ)) (x : List ℕ) (n : ℕ) → place_
 place_within names x n at = slice_get_within names n x (place_leads_back names x n at)
 
 -- in a list with one more at its end
-abbrev at_end : Option ℕ → Bool → ℕ → Option ℕ
+abbrev pub at_end : Option ℕ → Bool → ℕ → Option ℕ
 at_end (Some n) is end = Some n
 at_end None is end = cond is (Some end) None
 
@@ -94,6 +94,9 @@ finds_new table keys firsts k at finds as_many new last x =
     by None true e f = slice_last firsts at (length table) (sym as_many) ∙ ap Some last
     by None false e f = refl
 
+same_number : (a b : ℕ) → Some a ≡ Some b → a ≡ b
+same_number a b e = cc
+
 known_same : (old new : Index) (k : List ℕ) (j : ℕ) → place_of old.names k ≡ Some j → new.names ≡ with_name old.names k → new.names ≡ old.names
 known_same old new k j at names = names ∙ with_known old.names k j at
 
@@ -126,7 +129,4 @@ index_kept keys old new k id index names number not_next firsts = by (placed old
         }
     by (inr none) =
         let at_last = sym number ∙ ap (λ (t : List (List ℕ)). place_of t k) (names ∙ with_new old.names k none) ∙ place_at_end old.names k none in
-        absurd (not_next (some_same id (length old.names) at_last ∙ sym index.as_many))
-
-    some_same : (a b : ℕ) → Some a ≡ Some b → a ≡ b
-    some_same a b e = cc
+        absurd (not_next (same_number id (length old.names) at_last ∙ sym index.as_many))

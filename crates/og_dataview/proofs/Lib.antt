@@ -4,4 +4,5 @@ pub mod Tables
 pub mod Short
 pub mod Indexing
 pub mod Noting
+pub mod Meeting
 pub mod Exports

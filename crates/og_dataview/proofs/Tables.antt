@@ -1,9 +1,9 @@
 -- Lists that keep what a function says of each place, and where ways kept so lead.
-use Rattle.std.proofs.Common.{◌≡◌, ℕ, zero, suc, ◌+◌, ◌*◌, ◌≤◌, ◌<◌, List, [], ◌∷◌, ◌++◌, length, get_or, slice_get, Option, Some, None, unwrap_or, refl, sym, ap, ◌∙◌, arith, length-append, ◌⊎◌, inl, inr}
-use Rattle.og_dataview.specs.declared.numbers.Interval.{Interval}
-use Rattle.og_dataview.specs.declared.ways.Way.{Way}
-use Rattle.og_dataview.specs.Following.{walk, nothing, both, numbers_on, greater, lesser}
-use Rattle.og_dataview.specs.Ways.{step_in, Leads, numbers_in, IsWay}
+use Rattle.std.proofs.Common.{◌≡◌, ℕ, zero, suc, ◌+◌, ◌*◌, ◌≤◌, ◌<◌, List, [], ◌∷◌, ◌++◌, length, get_or, slice_get, Option, Some, None, unwrap_or, refl, sym, ap, ◌∙◌, arith, length-append, ◌⊎◌, inl, inr, map}
+use Rattle.std.specs.Option.{option_map}
+use Rattle.std.proofs.lemmas.Option.{slice_get-map}
+use Rattle.og_dataview.specs.Following.{walk}
+use Rattle.og_dataview.specs.Ways.{step_in, Leads}
 
 -- ---- lists by places
 
@@ -57,12 +57,12 @@ steps_are f xs n tabulated out p = by (below_or_not p n)
 
 -- ---- ways
 
-pub walk_on : (next : ℕ → ℕ) (a b p : ℕ) → walk next (a + b) p ≡ walk next b (walk next a p)
-walk_on next zero b p = refl
-walk_on next (suc a) b p = walk_on next a b (next p)
-
-walk_by : (next : ℕ → ℕ) (m n p : ℕ) → m ≡ n → walk next m p ≡ walk next n p
+pub walk_by : (next : ℕ → ℕ) (m n p : ℕ) → m ≡ n → walk next m p ≡ walk next n p
 walk_by next m n p e = ap (λ k. walk next k p) e
+
+pub walk_on : (next : ℕ → ℕ) (a b p : ℕ) → walk next (a + b) p ≡ walk next b (walk next a p)
+walk_on next zero b p = walk_by next (0 + b) b p (omega arith)
+walk_on next (suc a) b p = walk_by next (suc a + b) (suc (a + b)) p (omega arith) ∙ walk_on next a b (next p)
 
 pub walks_none : (next : ℕ → ℕ) (steps : ℕ) (list : List ℕ) → steps ≡ 0 → ((p : ℕ) → step_in list p ≡ p) → Leads next steps list
 walks_none next steps list e each = record { each = λ p. each p ∙ walk_by next 0 steps p (sym e) }
@@ -87,3 +87,24 @@ walk_same next next' h (suc n) p = ap (walk next n) (h p) ∙ walk_same next nex
 
 pub leads_by : (next : ℕ → ℕ) (n steps : ℕ) (nexts list : List ℕ) → n ≡ steps → ((p : ℕ) → step_in nexts p ≡ next p) → Leads (step_in nexts) n list → Leads next steps list
 leads_by next n steps nexts list e h leads = record { each = λ p. leads.each p ∙ walk_same (step_in nexts) next h n p ∙ walk_by next n steps p e }
+
+-- each place leads to itself
+pub stands : (list : List ℕ) (n p : ℕ) → Tabulated (λ q. q) list n → step_in list p ≡ p
+stands list n p tabulated = steps_are (λ q. q) list n tabulated (λ q le. refl) p
+
+behind : (xs : List ℕ) (q : ℕ) → slice_get xs q ≡ None → length xs ≤ q
+behind [] q e = omega arith
+behind (x ∷ xs) zero e = cc
+behind (x ∷ xs) (suc q) e = omega (arith, behind xs q e)
+
+-- by the first list, and then by the second one
+pub goes_then : (first second list : List ℕ) (p : ℕ) → list ≡ map (step_in second) first → length first ≡ length second → step_in list p ≡ step_in second (step_in first p)
+goes_then first second list p is same =
+    ap (λ xs. step_in xs p) is ∙ ap (λ o. unwrap_or o p) (slice_get-map (step_in second) first p) ∙ by (slice_get first p) refl
+  where
+    by : (o : Option ℕ) → slice_get first p ≡ o → unwrap_or (option_map (step_in second) o) p ≡ step_in second (unwrap_or o p)
+    by (Some q) e = refl
+    by None e = sym (ap (λ o. unwrap_or o p) (none_behind second p (omega (arith, behind first p e, same))))
+
+pub ruleset walks = (walks_none, walks_even, walks_odd, leads_by)
+pub ruleset tables = (tabulated_none, tabulated_more, steps_are, stands, goes_then)

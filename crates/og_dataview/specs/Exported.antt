@@ -36,10 +36,10 @@ abbrev pub constants_in : List ℕ → List ℕ → ModuleTree → Bool
 constants_in a b m = bytes_eq a (key m.name) && list_any (is_constant_of b) m.assignments
 
 -- these are the modules with their types and constants
-pub record IsExported (modules : List ModuleTree) (exported : Exported) : Type 0 where
-  pub modules : (a : List ℕ) → is_some (place_of exported.modules a) ≡ list_any (λ (m : ModuleTree). bytes_eq a (key m.name)) modules
-  pub types : (a b : List ℕ) → has exported.types a b ≡ list_any (types_in a b) modules
-  pub constants : (a b : List ℕ) → has exported.constants a b ≡ list_any (constants_in a b) modules
+pub record IsExported (all : List ModuleTree) (exported : Exported) : Type 0 where
+  pub modules : (a : List ℕ) → is_some (place_of exported.modules a) ≡ list_any (λ (m : ModuleTree). bytes_eq a (key m.name)) all
+  pub types : (a b : List ℕ) → has exported.types a b ≡ list_any (types_in a b) all
+  pub constants : (a b : List ℕ) → has exported.constants a b ≡ list_any (constants_in a b) all
 
 -- ---- violations
 

@@ -41,6 +41,7 @@ pub struct Exported {
 }
 
 /// What the modules declare.
+#[tactic(auto, using(crate::proofs::Exports::exports))]
 pub fn exported_of(alloc: Global, modules: &[ModuleTree]) -> Result<Exported, NoMemory>
     ensures { IfOk result (IsExported modules.now) }
 {
@@ -103,6 +104,7 @@ impl Exported {
         self.add_all(alloc, &tree.name, tree.assignments.as_slice())
     }
 
+    #[tactic(auto, using(crate::proofs::Exports::exports))]
     fn add_all(
         &mut self,
         alloc: Global,

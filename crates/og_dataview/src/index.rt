@@ -27,7 +27,7 @@ impl Index {
     }
 
     /// Adds the name that is declared at this place, behind all others.
-    #[tactic(auto, using(crate::proofs::Indexing::index_more))]
+    #[tactic(auto, using(crate::proofs::Indexing::index_pushed, crate::proofs::Indexing::index_kept))]
     pub fn add(&mut self, name: &Name, at: u32) -> Result<(), NoMemory>
         ensures { OnOk result ((keys : List (List ℕ)) → IsIndex keys self.old → at ≡ length keys → IsIndex (keys ++ key name.now ∷ []) self.new) }
     {
@@ -48,7 +48,7 @@ impl Index {
 }
 
 /// Gives a name its number in a table: a new one the next, a known one its own.
-#[tactic(auto, using(crate::proofs::Indexing::short))]
+#[tactic(auto, using(crate::proofs::Short::short))]
 pub fn add_name(names: &mut Names, name: &Name) -> Result<u32, NoMemory>
     ensures added { OnOk result (names.new ≡ with_name names.old (key name.now)) }
     ensures number { IfOk result (λ id. place_of names.new (key name.now) ≡ Some id) }

@@ -100,6 +100,7 @@ impl Spellings {
 }
 
 /// The first violation among names of one list, where a name is spelt like an earlier one, or folds like one.
+#[tactic(auto, using(crate::proofs::Meeting::meetings))]
 pub fn note_repeated_names<T: Declared>(
     alloc: Global,
     declared: &[T],
@@ -118,6 +119,7 @@ pub fn note_repeated_names<T: Declared>(
 }
 
 /// N2 or N7 at a name that was met before. The name is met from here on.
+#[tactic(auto, using(crate::proofs::Meeting::met_more, crate::proofs::Meeting::noted_old, crate::proofs::Meeting::noted_new))]
 fn note_repeated(
     alloc: Global,
     met: &mut Met,
@@ -140,6 +142,7 @@ fn note_repeated(
 }
 
 /// N2 at enumerators with a number that an earlier one has.
+#[tactic(auto, using(crate::proofs::Meeting::countings))]
 pub fn note_repeated_numbers(
     alloc: Global,
     items: &[Enumerator],
