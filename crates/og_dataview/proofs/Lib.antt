@@ -5,4 +5,5 @@ pub mod Short
 pub mod Indexing
 pub mod Noting
 pub mod Meeting
+pub mod OneAnswer
 pub mod Exports

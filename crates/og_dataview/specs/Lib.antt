@@ -9,3 +9,4 @@ pub mod Violations
 pub mod Exported
 pub mod View
 pub mod ViewExamples
+pub mod Laws

@@ -1,4 +1,5 @@
 //! Worked examples, computed from the definitions. Each function does nothing, and its contract says what the definitions give.
+ghost use Rattle.og_dataview.specs.Laws.{EachHasOneAnswer};
 ghost use Rattle.og_dataview.specs.ViewExamples.{FreeNumbersInOrder, NumbersBelowZeroAndOpenOnes, RangesIntersect, OnlyWhatIsLeftCounts, ConstantsAreFollowed, TypesComeByDepth, OpaqueTypesAreFound, NamesWithoutDeclaration, UnknownNames, NamesThatAreNotLookedFor, NamesTwice, NamesOfDifferentLists, ImportsAreChecked};
 
 /// Views of modules.
@@ -20,4 +21,9 @@ pub fn violations()
     ensures twice { NamesTwice }
     ensures apart { NamesOfDifferentLists }
     ensures imports { ImportsAreChecked }
+{}
+
+/// Modules keep all rules on names, or there is a first violation.
+pub fn one_answer()
+    ensures { EachHasOneAnswer }
 {}

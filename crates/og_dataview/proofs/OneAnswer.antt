@@ -1,0 +1,26 @@
+-- A list of violations is empty, or has a first one, which is one of them.
+use Rattle.std.proofs.Common.{◌≡◌, ℕ, zero, suc, ◌<◌, Bool, true, false, if◌then◌else◌, List, [], ◌∷◌, length, get_or, Option, Some, None, Contains, refl, sym, ap, subst, ◌∙◌, ◌⊎◌, inl, inr, arith}
+use Rattle.og_base.specs.declared.Violation.{Violation}
+use Rattle.og_base.specs.Order.{comes_before, sooner, first_from, first_of}
+
+later_there : (x v : Violation) (xs : List Violation) → Contains xs v → Contains (x ∷ xs) v
+later_there x v xs there = (suc there.0, omega (arith, there.1), there.2)
+
+swap : (x y v : Violation) (xs : List Violation) → Contains (x ∷ xs) v → Contains (x ∷ y ∷ xs) v
+swap x y v xs there = by there.0 there.1 there.2
+  where
+    by : (k : ℕ) → k < length (x ∷ xs) → get_or (x ∷ xs) k v ≡ v → Contains (x ∷ y ∷ xs) v
+    by zero lt at = (0, omega arith, at)
+    by (suc k) lt at = (suc (suc k), omega arith, at)
+
+some_first : (best : Violation) (vs : List Violation) → (v : Violation) × (first_from (Some best) vs ≡ Some v) × Contains (best ∷ vs) v
+some_first best [] = (best, refl, (0, omega arith, refl))
+some_first best (w ∷ vs) = by (comes_before w best) refl
+  where
+    by : (b : Bool) → comes_before w best ≡ b → (v : Violation) × (first_from (Some best) (w ∷ vs) ≡ Some v) × Contains (best ∷ w ∷ vs) v
+    by true e = let x = some_first w vs in (x.0, ap (λ c. first_from (if c then Some w else Some best) vs) e ∙ x.1, later_there best x.0 (w ∷ vs) x.2)
+    by false e = let x = some_first best vs in (x.0, ap (λ c. first_from (if c then Some w else Some best) vs) e ∙ x.1, swap best w x.0 vs x.2)
+
+pub one_answer : (vs : List Violation) → ((vs ≡ []) × (first_of vs ≡ None)) ⊎ ((v : Violation) × (first_of vs ≡ Some v) × Contains vs v)
+one_answer [] = inl (refl, refl)
+one_answer (best ∷ vs) = inr (some_first best vs)
