@@ -143,11 +143,11 @@ module _ (modules : List ModuleTree) (exported : Exported) (is : IsExported modu
   import_is : (import : ImportTree) → import_by exported import ≡ in_import modules import
   import_is import =
       from_named import.symbols (flat_map (symbol_by exported import.module) import.symbols) (modules_named modules import.module) (is_some (place_of exported.modules (key import.module)))
-          (any_of_filter (λ (m : ModuleTree). folds_as import.module m.name) (λ m. true) modules
-              ∙ any_same _ (λ (m : ModuleTree). bytes_eq (key import.module) (key m.name)) modules (λ m. and_true (bytes_eq (key import.module) (key m.name)))
-              ∙ sym (is.modules (key import.module)))
-          (modules_named modules import.module) refl
-          (flat_map_same _ _ import.symbols (symbol_is import.module))
+      (any_of_filter (λ (m : ModuleTree). folds_as import.module m.name) (λ m. true) modules
+      ∙ any_same _ (λ (m : ModuleTree). bytes_eq (key import.module) (key m.name)) modules (λ m. and_true (bytes_eq (key import.module) (key m.name)))
+      ∙ sym (is.modules (key import.module)))
+      (modules_named modules import.module) refl
+      (flat_map_same _ _ import.symbols (symbol_is import.module))
     where
       and_true : (b : Bool) → (b && true) ≡ b
       and_true true = refl

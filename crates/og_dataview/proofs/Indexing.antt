@@ -66,7 +66,7 @@ finds_known table keys firsts k j finds as_many at x = finds x ∙ by (place_of 
     missing : x ≡ k → place_of keys x ≡ None → ⊥
     missing same none =
         slice_there firsts j (omega (arith, place_within table k j at, as_many))
-            (sym (ap (option_and_then (slice_get firsts)) at) ∙ finds k ∙ ap (place_of keys) (sym same) ∙ none)
+        (sym (ap (option_and_then (slice_get firsts)) at) ∙ finds k ∙ ap (place_of keys) (sym same) ∙ none)
 
     by : (o : Option ℕ) (b : Bool) → place_of keys x ≡ o → bytes_eq x k ≡ b → o ≡ at_end o b (length keys)
     by (Some n) b e f = refl

@@ -16,7 +16,7 @@ use Rattle.og_dataview.specs.Flattening.{Parts, with_part, opened, last_of, part
 
 -- ---- sizes of parts
 
-abbrev inside_base : BaseTree-F BaseTree CompTree OfTree TypeTree → ℕ
+abbrev pub inside_base : BaseTree-F BaseTree CompTree OfTree TypeTree → ℕ
 inside_base (Choice comps) = most size-CompTree comps
 inside_base (Sequence comps) = most size-CompTree comps
 inside_base (SequenceOf of) = size-OfTree of
@@ -39,13 +39,13 @@ weight_base (OctetString limits) = omega arith
 weight_base ObjectIdentifier = omega arith
 weight_base (BitString names limits) = omega arith
 
-below_base : (b : BaseTree) → inside_base (out-BaseTree b) + 1 ≤ size-BaseTree b
+pub below_base : (b : BaseTree) → inside_base (out-BaseTree b) + 1 ≤ size-BaseTree b
 below_base b = let e = size_is-BaseTree b in let h = weight_base (out-BaseTree b) in omega (arith, e, h)
 
-below_type : (t : TypeTree) → size-BaseTree t.base + 1 ≤ size-TypeTree t
+pub below_type : (t : TypeTree) → size-BaseTree t.base + 1 ≤ size-TypeTree t
 below_type t = let h = size_is-TypeTree t in omega (arith, h)
 
-abbrev inside_comp : CompTree-F BaseTree CompTree OfTree TypeTree → ℕ
+abbrev pub inside_comp : CompTree-F BaseTree CompTree OfTree TypeTree → ℕ
 inside_comp (Part name kind presence) = size-TypeTree kind
 inside_comp (Extension place) = 0
 
@@ -53,10 +53,10 @@ weight_comp : (x : CompTree-F BaseTree CompTree OfTree TypeTree) → inside_comp
 weight_comp (Part name kind presence) = omega arith
 weight_comp (Extension place) = omega arith
 
-below_comp : (c : CompTree) → inside_comp (out-CompTree c) + 1 ≤ size-CompTree c
+pub below_comp : (c : CompTree) → inside_comp (out-CompTree c) + 1 ≤ size-CompTree c
 below_comp c = let e = size_is-CompTree c in let h = weight_comp (out-CompTree c) in omega (arith, e, h)
 
-below_of : (o : OfTree) → size-TypeTree (out-OfTree o).item + 1 ≤ size-OfTree o
+pub below_of : (o : OfTree) → size-TypeTree (out-OfTree o).item + 1 ≤ size-OfTree o
 below_of o = let h = size_is-OfTree o in omega (arith, h)
 
 -- ---- the same of the parts gives the same
@@ -100,7 +100,7 @@ base_same f g k h n (BitString names limits) p = refl
 
 -- ---- any depth
 
-no_depth : (t : TypeTree) (A : Type 0) → size-TypeTree t ≤ 0 → A
+pub no_depth : (t : TypeTree) (A : Type 0) → size-TypeTree t ≤ 0 → A
 no_depth t A p = let h = below_type t in absurd (omega (arith, h, p))
 
 pub steady : (d e n : ℕ) (t : TypeTree) → size-TypeTree t ≤ d → size-TypeTree t ≤ e → nodes_within d n t ≡ nodes_within e n t
@@ -110,7 +110,7 @@ steady (suc d) (suc e) n t p q =
     let base = below_base t.base in
     let type = below_type t in
     base_same (nodes_within d) (nodes_within e) (inside_base (out-BaseTree t.base))
-        (λ m u r. steady d e m u (omega (arith, base, type, p, r)) (omega (arith, base, type, q, r))) n (out-BaseTree t.base) (le_refl _)
+    (λ m u r. steady d e m u (omega (arith, base, type, p, r)) (omega (arith, base, type, q, r))) n (out-BaseTree t.base) (le_refl _)
 
 layer_by : (d n : ℕ) (t : TypeTree) → size-TypeTree t ≤ d → nodes_within d n t ≡ nodes_by nodes_of n (out-BaseTree t.base)
 layer_by zero n t p = no_depth t _ p
@@ -118,7 +118,7 @@ layer_by (suc d) n t p =
     let base = below_base t.base in
     let type = below_type t in
     base_same (nodes_within d) nodes_of (inside_base (out-BaseTree t.base))
-        (λ m u r. steady d (size-TypeTree u) m u (omega (arith, base, type, p, r)) (le_refl _)) n (out-BaseTree t.base) (le_refl _)
+    (λ m u r. steady d (size-TypeTree u) m u (omega (arith, base, type, p, r)) (le_refl _)) n (out-BaseTree t.base) (le_refl _)
 
 pub nodes_layer : (n : ℕ) (t : TypeTree) → nodes_of n t ≡ nodes_by nodes_of n (out-BaseTree t.base)
 nodes_layer n t = layer_by (size-TypeTree t) n t (le_refl _)

@@ -6,4 +6,5 @@ pub mod Indexing
 pub mod Noting
 pub mod Meeting
 pub mod OneAnswer
+pub mod Sets
 pub mod Exports

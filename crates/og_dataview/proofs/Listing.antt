@@ -1,6 +1,6 @@
 -- Loops that lay types out flat: the parts of a choice or a sequence one after the other, and enumerators.
 use Rattle.std.proofs.Common.{◌≡◌, ℕ, ◌+◌, ◌≤◌, ◌<◌, Bool, true, false, ◌&&◌, List, [], ◌∷◌, ◌++◌, length, get_or, refl, sym, ap, ◌∙◌, append_assoc, length-append, arith, Option, is_none}
-use Rattle.std.proofs.lemmas.List.{append_nil}
+use Rattle.std.proofs.lemmas.List.{append-nil}
 use Rattle.og_names.proofs.Loops.{Left, left_first, left_more, left_all}
 use Rattle.og_asn1.specs.declared.syntax.Name.{Name}
 use Rattle.og_asn1.specs.declared.syntax.TypeTree.{TypeTree}
@@ -12,7 +12,7 @@ use Rattle.og_asn1.specs.declared.syntax.EnumTree.{EnumTree}
 use Rattle.og_dataview.specs.declared.flat.Node.{Node}
 use Rattle.og_dataview.specs.declared.flat.PartNode.{PartNode}
 use Rattle.og_dataview.specs.declared.flat.Enumerator.{Enumerator}
-use Rattle.og_dataview.specs.Flattening.{Parts, no_parts, with_part, opened, parts_by, parts_of, one_part, enumerator_of, enumerators_of}
+use Rattle.og_dataview.specs.Flattening.{Parts, no_parts, with_part, opened, last_of, default_of, parts_by, parts_of, one_part, enumerator_of, enumerators_of}
 
 abbrev joined : Parts → Parts → Parts
 joined a b = record { nodes = a.nodes ++ b.nodes; parts = a.parts ++ b.parts; is_plain = a.is_plain && b.is_plain }
@@ -27,16 +27,34 @@ and_true false = refl
 
 joined_assoc : (a b c : Parts) → joined (joined a b) c ≡ joined a (joined b c)
 joined_assoc a b c = λ i. record {
-  nodes = append_assoc {xs = a.nodes} {ys = b.nodes} {zs = c.nodes} i;
-  parts = append_assoc {xs = a.parts} {ys = b.parts} {zs = c.parts} i;
+  nodes = append_assoc a.nodes b.nodes c.nodes i;
+  parts = append_assoc a.parts b.parts c.parts i;
   is_plain = and_assoc a.is_plain b.is_plain c.is_plain i;
 }
 
 -- one part, and then the others
 part_split : (inside : ℕ → TypeTree → List Node) (n : ℕ) (c : CompTree-F BaseTree CompTree OfTree TypeTree) (more : ℕ → Parts)
     → parts_by inside n c more ≡ joined (parts_by inside n c (λ m. no_parts)) (more (n + length (parts_by inside n c (λ m. no_parts)).nodes))
-part_split inside n (Part name kind presence) more = simp append_nil (simp and_true)
-part_split inside n (Extension place) more = simp append_nil
+part_split inside n (Part name kind presence) more = λ i. record {
+  nodes = nil i ++ (more (n + length (nil i))).nodes;
+  parts = record { name = name; node = last_of n (inside n kind); default = default_of presence } ∷ (more (n + length (nil i))).parts;
+  is_plain = plain (is_none presence) (more (n + length (nil i))).is_plain i;
+}
+  where
+    nil : inside n kind ≡ inside n kind ++ []
+    nil = sym (append-nil (inside n kind))
+
+    plain : (a b : Bool) → (a && b) ≡ ((a && true) && b)
+    plain true b = refl
+    plain false b = refl
+part_split inside n (Extension place) more = λ i. record {
+  nodes = (more (none i)).nodes;
+  parts = (more (none i)).parts;
+  is_plain = false;
+}
+  where
+    none : n ≡ n + 0
+    none = omega arith
 
 -- after the parts before the i-th
 pub record Listing (inside : ℕ → TypeTree → List Node) (nodes : List Node) (cs : List CompTree) (i : ℕ) (now : List Node) (parts : List PartNode) (is_plain : Bool) : Type 0 where
@@ -79,11 +97,11 @@ listed inside nodes cs i now parts plain le listing = left_all _ cs i _ le listi
 
 pub listed_nodes : (inside : ℕ → TypeTree → List Node) (nodes : List Node) (cs : List CompTree) (i : ℕ) (now : List Node) (parts : List PartNode) (plain : Bool) → length cs ≤ i
     → Listing inside nodes cs i now parts plain → now ≡ nodes ++ (parts_of inside cs (length nodes)).nodes
-listed_nodes inside nodes cs i now parts plain le listing = sym append_nil ∙ ap (λ (p : Parts). p.nodes) (listed inside nodes cs i now parts plain le listing)
+listed_nodes inside nodes cs i now parts plain le listing = sym (append-nil now) ∙ ap (λ (p : Parts). p.nodes) (listed inside nodes cs i now parts plain le listing)
 
 pub listed_parts : (inside : ℕ → TypeTree → List Node) (nodes : List Node) (cs : List CompTree) (i : ℕ) (now : List Node) (parts : List PartNode) (plain : Bool) → length cs ≤ i
     → Listing inside nodes cs i now parts plain → parts ≡ (parts_of inside cs (length nodes)).parts
-listed_parts inside nodes cs i now parts plain le listing = sym append_nil ∙ ap (λ (p : Parts). p.parts) (listed inside nodes cs i now parts plain le listing)
+listed_parts inside nodes cs i now parts plain le listing = sym (append-nil parts) ∙ ap (λ (p : Parts). p.parts) (listed inside nodes cs i now parts plain le listing)
 
 pub listed_plain : (inside : ℕ → TypeTree → List Node) (nodes : List Node) (cs : List CompTree) (i : ℕ) (now : List Node) (parts : List PartNode) (plain : Bool) → length cs ≤ i
     → Listing inside nodes cs i now parts plain → plain ≡ (parts_of inside cs (length nodes)).is_plain
@@ -103,10 +121,10 @@ pub gathered_more : (items : List EnumTree) (i : ℕ) (t : EnumTree) (now next :
     → Gathered items i now → Gathered items (i + 1) next
 gathered_more items i t now next lt at is before = record {
   left = left_more (λ ys. now ++ enumerators_of ys) (λ ys. next ++ enumerators_of ys) items i t (enumerators_of items) lt at
-      (λ ys. sym append_assoc ∙ ap (λ (es : List Enumerator). es ++ enumerators_of ys) (sym is)) before.left;
+      (λ ys. sym (append_assoc now (enumerator_of t) (enumerators_of ys)) ∙ ap (λ (es : List Enumerator). es ++ enumerators_of ys) (sym is)) before.left;
 }
 
 pub gathered_all : (items : List EnumTree) (i : ℕ) (now : List Enumerator) → length items ≤ i → Gathered items i now → now ≡ enumerators_of items
-gathered_all items i now le gathered = sym append_nil ∙ left_all (λ ys. now ++ enumerators_of ys) items i (enumerators_of items) le gathered.left
+gathered_all items i now le gathered = sym (append-nil now) ∙ left_all (λ ys. now ++ enumerators_of ys) items i (enumerators_of items) le gathered.left
 
 pub ruleset gathers = (gathered_first, gathered_more, gathered_all)

@@ -24,7 +24,7 @@ use Rattle.og_dataview.proofs.Noting.{first_from_both}
 
 -- ---- tests of lists
 
-or_nothing : (b : Bool) → (b || false) ≡ b
+pub or_nothing : (b : Bool) → (b || false) ≡ b
 or_nothing true = refl
 or_nothing false = refl
 
@@ -32,14 +32,14 @@ or_assoc : (a b c : Bool) → (a || (b || c)) ≡ ((a || b) || c)
 or_assoc true b c = refl
 or_assoc false b c = refl
 
-any_end : {X : Type 0} (p : X → Bool) (xs : List X) (x : X) → list_any p (xs ++ x ∷ []) ≡ (list_any p xs || p x)
+pub any_end : {X : Type 0} (p : X → Bool) (xs : List X) (x : X) → list_any p (xs ++ x ∷ []) ≡ (list_any p xs || p x)
 any_end p [] x = or_nothing (p x)
 any_end p (y ∷ ys) x = ap (λ b. p y || b) (any_end p ys x) ∙ or_assoc (p y) (list_any p ys) (p x)
 
 -- ---- names
 
 -- a known name, or one more
-some_more : (names : List (List ℕ)) (k x : List ℕ) → is_some (place_of (with_name names k) x) ≡ (is_some (place_of names x) || bytes_eq x k)
+pub some_more : (names : List (List ℕ)) (k x : List ℕ) → is_some (place_of (with_name names k) x) ≡ (is_some (place_of names x) || bytes_eq x k)
 some_more names k x = by (placed names k)
   where
     end : (o : Option ℕ) (b : Bool) (n : ℕ) → is_some (at_end o b n) ≡ (is_some o || b)
@@ -107,8 +107,8 @@ meeting_more name_of xs i x name old new now next first lt at named noted met be
   is = met before.earlier before.is;
   left = left_more (λ ys. first_from now (repeated_behind before.earlier (map name_of ys))) (λ ys. first_from next (repeated_behind (before.earlier ++ name ∷ []) (map name_of ys))) xs i x _ lt at
       (λ ys. ap (λ n. first_from now (repeated before.earlier n ++ repeated_behind (before.earlier ++ n ∷ []) (map name_of ys))) (sym named)
-          ∙ first_from_both now (repeated before.earlier name) (repeated_behind (before.earlier ++ name ∷ []) (map name_of ys))
-          ∙ ap (λ v. first_from v (repeated_behind (before.earlier ++ name ∷ []) (map name_of ys))) (sym (noted before.earlier before.is))) before.left;
+      ∙ first_from_both now (repeated before.earlier name) (repeated_behind (before.earlier ++ name ∷ []) (map name_of ys))
+      ∙ ap (λ v. first_from v (repeated_behind (before.earlier ++ name ∷ []) (map name_of ys))) (sym (noted before.earlier before.is))) before.left;
 }
 
 pub meeting_all : {X : Type 0} (name_of : X → Name) (xs : List X) (i : ℕ) (met : Met) (now first : Option Violation) → length xs ≤ i → Meeting name_of xs i met now first
@@ -152,7 +152,7 @@ counting_more items i e old new now next first lt at noted met before = record {
   is = met before.earlier before.is;
   left = left_more (λ ys. first_from now (given_behind before.earlier ys)) (λ ys. first_from next (given_behind (before.earlier ++ given e) ys)) items i e _ lt at
       (λ ys. first_from_both now (given_again before.earlier e) (given_behind (before.earlier ++ given e) ys)
-          ∙ ap (λ v. first_from v (given_behind (before.earlier ++ given e) ys)) (sym (noted before.earlier before.is))) before.left;
+      ∙ ap (λ v. first_from v (given_behind (before.earlier ++ given e) ys)) (sym (noted before.earlier before.is))) before.left;
 }
 
 pub counting_all : (items : List Enumerator) (i : ℕ) (keys : List ℤ) (now first : Option Violation) → length items ≤ i → Counting items i keys now first → now ≡ first_from first (repeated_numbers items)

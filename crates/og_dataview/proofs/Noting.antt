@@ -29,4 +29,11 @@ pub noted_all : {X : Type 0} (f : X → List Violation) (xs : List X) (i : ℕ) 
     → length xs ≤ i → Noted f xs i now first → now ≡ first_from first (flat_map f xs)
 noted_all f xs i now first le noted = left_all (λ ys. first_from now (flat_map f ys)) xs i (first_from first (flat_map f xs)) le noted.left
 
+-- the first violation of five lists
+pub first_of_five : (best one two three four five : Option Violation) (a b c d e : List Violation) → one ≡ first_from best a → two ≡ first_from one b → three ≡ first_from two c
+    → four ≡ first_from three d → five ≡ first_from four e → five ≡ first_from best (a ++ (b ++ (c ++ (d ++ e))))
+first_of_five best one two three four five a b c d e p q r s t =
+    t ∙ ap (λ v. first_from v e) s ∙ sym (first_from_both three d e) ∙ ap (λ v. first_from v (d ++ e)) r ∙ sym (first_from_both two c (d ++ e))
+    ∙ ap (λ v. first_from v (c ++ (d ++ e))) q ∙ sym (first_from_both one b (c ++ (d ++ e))) ∙ ap (λ v. first_from v (b ++ (c ++ (d ++ e)))) p ∙ sym (first_from_both best a (b ++ (c ++ (d ++ e))))
+
 pub ruleset notes = (first_from_both, noted_first, noted_more, noted_all)

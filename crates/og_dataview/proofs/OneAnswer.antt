@@ -13,13 +13,17 @@ swap x y v xs there = by there.0 there.1 there.2
     by zero lt at = (0, omega arith, at)
     by (suc k) lt at = (suc (suc k), omega arith, at)
 
-some_first : (best : Violation) (vs : List Violation) → (v : Violation) × (first_from (Some best) vs ≡ Some v) × Contains (best ∷ vs) v
+abbrev First : Violation → List Violation → Type 0
+First best vs = (v : Violation) × (first_from (Some best) vs ≡ Some v) × Contains (best ∷ vs) v
+
+-- the sooner of two, and then the others
+first_more : (best w : Violation) (vs : List Violation) (b : Bool) → comes_before w best ≡ b → First w vs → First best vs → First best (w ∷ vs)
+first_more best w vs true e x y = (x.0, ap (λ c. first_from (if c then Some w else Some best) vs) e ∙ x.1, later_there best x.0 (w ∷ vs) x.2)
+first_more best w vs false e x y = (y.0, ap (λ c. first_from (if c then Some w else Some best) vs) e ∙ y.1, swap best w y.0 vs y.2)
+
+some_first : (best : Violation) (vs : List Violation) → First best vs
 some_first best [] = (best, refl, (0, omega arith, refl))
-some_first best (w ∷ vs) = by (comes_before w best) refl
-  where
-    by : (b : Bool) → comes_before w best ≡ b → (v : Violation) × (first_from (Some best) (w ∷ vs) ≡ Some v) × Contains (best ∷ w ∷ vs) v
-    by true e = let x = some_first w vs in (x.0, ap (λ c. first_from (if c then Some w else Some best) vs) e ∙ x.1, later_there best x.0 (w ∷ vs) x.2)
-    by false e = let x = some_first best vs in (x.0, ap (λ c. first_from (if c then Some w else Some best) vs) e ∙ x.1, swap best w x.0 vs x.2)
+some_first best (w ∷ vs) = first_more best w vs (comes_before w best) refl (some_first w vs) (some_first best vs)
 
 pub one_answer : (vs : List Violation) → ((vs ≡ []) × (first_of vs ≡ None)) ⊎ ((v : Violation) × (first_of vs ≡ Some v) × Contains vs v)
 one_answer [] = inl (refl, refl)

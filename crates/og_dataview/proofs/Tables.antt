@@ -107,4 +107,5 @@ goes_then first second list p is same =
     by None e = sym (ap (λ o. unwrap_or o p) (none_behind second p (omega (arith, behind first p e, same))))
 
 pub ruleset walks = (walks_none, walks_even, walks_odd, leads_by)
+
 pub ruleset tables = (tabulated_none, tabulated_more, steps_are, stands, goes_then)

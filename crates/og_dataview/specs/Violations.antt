@@ -136,11 +136,14 @@ used_by_constant flat c = used_as_value flat c.node (name_in_value c.value)
 abbrev pub in_parts : Flat → List PartNode → List Violation
 in_parts flat parts = repeated_names (map (λ (p : PartNode). p.name) parts) ++ flat_map (used_by_part flat) parts
 
+abbrev pub in_enumerators : List Enumerator → List Violation
+in_enumerators items = repeated_names (map (λ (e : Enumerator). e.name) items) ++ repeated_numbers items
+
 abbrev pub in_node : Flat → Node → List Violation
 in_node flat (node.Integer limits) = used_by_limits flat limits
 in_node flat node.Boolean = []
 in_node flat (node.Reference name limits) = used_type flat name ++ used_by_limits flat limits
-in_node flat (node.Enumerated items is_open) = repeated_names (map (λ (e : Enumerator). e.name) items) ++ repeated_numbers items
+in_node flat (node.Enumerated items is_open) = in_enumerators items
 in_node flat (node.Choice parts is_plain) = in_parts flat parts
 in_node flat (node.Sequence parts is_plain) = in_parts flat parts
 in_node flat (node.SequenceOf limits item) = used_by_limits flat limits

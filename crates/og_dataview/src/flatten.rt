@@ -77,7 +77,8 @@ fn add_type(alloc: Global, nodes: &mut Items<Node>, tree: &TypeTree) -> Result<u
 {
     let node = node_of(alloc, nodes, &tree.base)?;
     nodes.push(node)?;
-    last_number(nodes.len())
+    let number = last_number(nodes.len())?;
+    Ok(number)
 }
 
 /// The number of the last of so many.
@@ -152,11 +153,7 @@ struct Parts {
 
 /// Adds the types in parts, and gives the parts.
 #[cycle(nodes)]
-fn parts_of(
-    alloc: Global,
-    nodes: &mut Items<Node>,
-    comps: &[CompTree],
-) -> Result<Parts, NoMemory>
+fn parts_of(alloc: Global, nodes: &mut Items<Node>, comps: &[CompTree]) -> Result<Parts, NoMemory>
     ensures nodes { OnOk result (nodes.new ≡ nodes.old ++ (parts_of nodes_of comps.now (length nodes.old)).nodes) }
     ensures parts { IfOk result (λ p. p.parts ≡ (parts_of nodes_of comps.now (length nodes.old)).parts) }
     ensures plain { IfOk result (λ p. p.is_plain ≡ (parts_of nodes_of comps.now (length nodes.old)).is_plain) }

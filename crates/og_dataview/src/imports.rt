@@ -101,7 +101,8 @@ impl Exported {
         ensures constants { OnOk result ((a b : List ℕ) → has self.new.constants a b ≡ (has self.old.constants a b || constants_in a b tree.now)) }
     {
         add_name(&mut self.modules, &tree.name)?;
-        self.add_all(alloc, &tree.name, tree.assignments.as_slice())
+        self.add_all(alloc, &tree.name, tree.assignments.as_slice())?;
+        Ok(())
     }
 
     #[tactic(auto, using(crate::proofs::Exports::exports))]
@@ -192,7 +193,11 @@ impl Exported {
         ensures { OnOk result (first.new ≡ first_from first.old (import_by self.now import.now)) }
     {
         let symbols = import.symbols.as_slice();
-        if self.modules.find(import.module.word.bytes.as_slice()).is_some() {
+        if self
+            .modules
+            .find(import.module.word.bytes.as_slice())
+            .is_some()
+        {
             self.note_symbols(alloc, &import.module, symbols, first)?;
         } else {
             note_first_symbol(symbols, first);

@@ -5,8 +5,7 @@ ghost use Rattle.og_dataview.specs.Limits.{read_front, bound_in, negative_bound,
 
 use crate::flat::{Bound, Limits, Range};
 use og_asn1::kind::{VALUE_NAME, kind_of};
-use og_asn1::named;
-use og_asn1::{RunTree, SizeTree};
+use og_asn1::{RunTree, SizeTree, named};
 use og_lexer::{AsnKeyword, AsnMark, Spanned, Token};
 use og_names::NoMemory;
 use std::alloc::Global;

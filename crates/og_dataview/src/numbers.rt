@@ -24,8 +24,16 @@ impl Interval {
     pub fn both(self, other: Interval) -> Interval
         ensures { result ≡ the_numbers_in_both self other }
     {
-        let lo = if self.lo <= other.lo { other.lo } else { self.lo };
-        let hi = if self.hi <= other.hi { self.hi } else { other.hi };
+        let lo = if self.lo <= other.lo {
+            other.lo
+        } else {
+            self.lo
+        };
+        let hi = if self.hi <= other.hi {
+            self.hi
+        } else {
+            other.hi
+        };
         Interval { lo, hi }
     }
 }

@@ -93,10 +93,18 @@ impl Spellings {
         ensures new { IfOk result (λ is_new. is_new ≡ not (has_word self.old name.now.word.bytes)) }
         ensures more { OnOk result ((bytes : List ℕ) → has_word self.new bytes ≡ (has_word self.old bytes || bytes_eq bytes name.now.word.bytes)) }
     {
-        let spelling = Vec::from_slice(alloc, name.word.bytes.as_slice())?;
+        let spelling = spelling_of(alloc, name)?;
         let (_, is_new) = self.set.insert_full(spelling)?;
         Ok(is_new)
     }
+}
+
+/// The bytes of a name.
+fn spelling_of(alloc: Global, name: &Name) -> Result<Vec<u8>, NoMemory>
+    ensures { IfOk result (λ word. word.items ≡ name.now.word.bytes) }
+{
+    let word = Vec::from_slice(alloc, name.word.bytes.as_slice())?;
+    Ok(word)
 }
 
 /// The first violation among names of one list, where a name is spelt like an earlier one, or folds like one.

@@ -100,7 +100,8 @@ fn ends_of(alloc: Global, flat: &Flat, types: &Index) -> Result<Vec<u32>, NoMemo
 {
     let steps = counted(flat.types.len())?;
     let nexts = next_types(alloc, flat, types)?;
-    walked(alloc, nexts.as_slice(), steps as usize + 1)
+    let ends = walked(alloc, nexts.as_slice(), steps as usize + 1)?;
+    Ok(ends)
 }
 
 fn next_types(alloc: Global, flat: &Flat, types: &Index) -> Result<Vec<u32>, NoMemory>

@@ -3,9 +3,11 @@ ghost use Rattle.std.specs.Prelude.{◌≡◌, map, IfOk, OnOk};
 ghost use Rattle.std.specs.Option.{option_copied};
 ghost use Rattle.std.specs.List.{flat_map};
 ghost use Rattle.og_base.specs.Order.{first_from};
-ghost use Rattle.og_dataview.specs.Violations.{built_in_again, used_type, used_constant, used_by_bound, used_by_range, used_by_limits, used_as_value, used_by_part, used_by_constant, in_parts, in_node, in_flat};
+ghost use Rattle.og_dataview.specs.Violations.{built_in_again, used_type, used_constant, used_by_bound, used_by_range, used_by_limits, used_as_value, used_by_part, used_by_constant, in_parts, in_enumerators, in_node, in_flat};
 
-use crate::flat::{Bound, ConstantNode, ConstantValue, Limits, Node, PartNode, Range, TypeNode};
+use crate::flat::{
+    Bound, ConstantNode, ConstantValue, Enumerator, Limits, Node, PartNode, Range, TypeNode,
+};
 use crate::known::{is_built_in, is_operator, is_predefined, is_procedure};
 use crate::notes::{note_if, note_looked_up};
 use crate::repeats::{note_repeated_names, note_repeated_numbers};
@@ -21,8 +23,7 @@ impl Scope {
         ensures { first.new ≡ first_from first.old (used_type self.now.flat name.now) }
     {
         let own = self.find_type(name).is_some() || (is_built_in(name) || is_predefined(name));
-        let other =
-            self.find_constant(name).is_some() || (is_procedure(name) || is_operator(name));
+        let other = self.find_constant(name).is_some() || (is_procedure(name) || is_operator(name));
         note_looked_up(own, other, name, first);
     }
 
@@ -123,16 +124,13 @@ impl Scope {
                 self.note_limits(limits, first);
                 Ok(())
             }
-            Node::Integer { limits }
-            | Node::SequenceOf { limits, .. }
-            | Node::Other { limits } => {
+            Node::Integer { limits } | Node::SequenceOf { limits, .. } | Node::Other { limits } => {
                 self.note_limits(limits, first);
                 Ok(())
             }
             Node::Boolean => Ok(()),
             Node::Enumerated { items, .. } => {
-                note_repeated_names(alloc, items.as_slice(), first)?;
-                note_repeated_numbers(alloc, items.as_slice(), first)?;
+                note_enumerators(alloc, items.as_slice(), first)?;
                 Ok(())
             }
             Node::Choice { parts, .. } | Node::Sequence { parts, .. } => {
@@ -143,20 +141,25 @@ impl Scope {
     }
 
     #[tactic(auto, using(crate::proofs::Noting::notes))]
-    fn note_nodes(&self, alloc: Global, first: &mut Option<Violation>) -> Result<(), NoMemory>
-        ensures { OnOk result (first.new ≡ first_from first.old (flat_map (in_node self.now.flat) self.now.flat.nodes)) }
+    fn note_nodes(
+        &self,
+        alloc: Global,
+        nodes: &[Node],
+        first: &mut Option<Violation>,
+    ) -> Result<(), NoMemory>
+        ensures { OnOk result (first.new ≡ first_from first.old (flat_map (in_node self.now.flat) nodes.now)) }
     {
-        for node in self.flat.nodes.as_slice() {
+        for node in nodes {
             self.note_node(alloc, node, first)?;
         }
         Ok(())
     }
 
     #[tactic(auto, using(crate::proofs::Noting::notes))]
-    fn note_constants(&self, first: &mut Option<Violation>)
-        ensures { first.new ≡ first_from first.old (flat_map (used_by_constant self.now.flat) self.now.flat.constants) }
+    fn note_constants(&self, constants: &[ConstantNode], first: &mut Option<Violation>)
+        ensures { first.new ≡ first_from first.old (flat_map (used_by_constant self.now.flat) constants.now) }
     {
-        for constant in self.flat.constants.as_slice() {
+        for constant in constants {
             self.note_constant(constant, first);
         }
     }
@@ -169,10 +172,24 @@ impl Scope {
         note_repeated_names(alloc, self.flat.types.as_slice(), first)?;
         note_built_in_again(self.flat.types.as_slice(), first);
         note_repeated_names(alloc, self.flat.constants.as_slice(), first)?;
-        self.note_nodes(alloc, first)?;
-        self.note_constants(first);
+        self.note_nodes(alloc, self.flat.nodes.as_slice(), first)?;
+        self.note_constants(self.flat.constants.as_slice(), first);
         Ok(())
     }
+}
+
+/// Names and numbers of enumerators that were met before.
+#[tactic(auto, using(crate::proofs::Noting::notes))]
+fn note_enumerators(
+    alloc: Global,
+    items: &[Enumerator],
+    first: &mut Option<Violation>,
+) -> Result<(), NoMemory>
+    ensures { OnOk result (first.new ≡ first_from first.old (in_enumerators items.now)) }
+{
+    note_repeated_names(alloc, items, first)?;
+    note_repeated_numbers(alloc, items, first)?;
+    Ok(())
 }
 
 /// N7 at types with the name of one that needs no declaration.

@@ -12,10 +12,7 @@ use og_names::NoMemory;
 use std::alloc::Global;
 
 /// The first violation of the rules on names (N1, N2, N3 and N7) in the modules of all files, which stand in one list.
-pub fn first_violation(
-    alloc: Global,
-    modules: &[ModuleTree],
-) -> Result<Option<Violation>, NoMemory>
+pub fn first_violation(alloc: Global, modules: &[ModuleTree]) -> Result<Option<Violation>, NoMemory>
     ensures { IfOk result (λ first. first ≡ first_violation modules.now) }
 {
     let flat = flat_of(alloc, modules)?;
