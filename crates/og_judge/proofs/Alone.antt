@@ -5,11 +5,14 @@ use Rattle.og_base.specs.Order.{first_of}
 use Rattle.og_front.specs.declared.syntax.SystemText.{SystemText}
 use Rattle.og_front.specs.Files.{IsTextOf, IsAccepted, IsRefused, FirstViolation}
 use Rattle.og_front.specs.Rules.{first_of_rules}
-use Rattle.og_judge.specs.Judging.{Names, States, Limits, violations_in, EachKeeps, IsLexed, IsParsed, AreAccepted, IsFirstViolation, sdl_file}
+use Rattle.og_judge.specs.Judging.{Names, States, Limits, violations_in, EachKeeps, IsParsed, DataKeeps, AreAccepted, IsFirstViolation, sdl_file}
 use Rattle.og_judge.proofs.Parts.{by_some, by_none, tree_first}
 
 parsed_alone : (bytes : List ℕ) → EachKeeps IsParsed 0 (sdl_file bytes ∷ [])
 parsed_alone bytes = (([], refl), tt)
+
+data_alone : (bytes : List ℕ) → DataKeeps (sdl_file bytes ∷ [])
+data_alone bytes = record { modules = []; are = ([], [], refl, refl, refl); none = refl }
 
 accepted_alone : (bytes : List ℕ) (system : SystemText) → IsTextOf 0 system bytes → first_of_rules system ≡ None → AreAccepted (sdl_file bytes ∷ [])
 accepted_alone bytes system text keeps =
@@ -20,8 +23,11 @@ accepted_alone bytes system text keeps =
         (
           ((system, text), tt),
           (
-            record { system = system; text = inl (refl, text, tt); none = none.0 },
-            (record { system = system; text = inl (refl, text, tt); none = none.1 }, (record { system = system; text = inl (refl, text, tt); none = none.2 }, tt)),
+            data_alone bytes,
+            (
+              record { system = system; text = inl (refl, text, tt); none = none.0 },
+              (record { system = system; text = inl (refl, text, tt); none = none.1 }, (record { system = system; text = inl (refl, text, tt); none = none.2 }, tt)),
+            ),
           ),
         ),
       ),
@@ -37,8 +43,11 @@ first_alone bytes v (inr (inr rule)) =
         parsed_alone bytes,
         inr (
           ((rule.system, rule.text), tt),
-          tree_first (sdl_file bytes ∷ []) v rule.system (inl (refl, rule.text, tt))
-              (by_some (first_of (violations_in Names rule.system)) (first_of (violations_in States rule.system)) (first_of (violations_in Limits rule.system)) v rule.first),
+          inr (
+            data_alone bytes,
+            tree_first (sdl_file bytes ∷ []) v rule.system (inl (refl, rule.text, tt))
+                (by_some (first_of (violations_in Names rule.system)) (first_of (violations_in States rule.system)) (first_of (violations_in Limits rule.system)) v rule.first),
+          ),
         ),
       ),
     )

@@ -1,5 +1,5 @@
 -- A first violation stands in one of the files.
-use Rattle.std.proofs.Common.{◌≡◌, ◌∙◌, ℕ, zero, suc, ◌+◌, ◌<◌, Bool, true, false, if◌then◌else◌, List, [], ◌∷◌, ◌++◌, length, take, Option, Some, None, sym, ap, subst, refl, inl, inr, arith}
+use Rattle.std.proofs.Common.{◌≡◌, ◌∙◌, ℕ, zero, suc, ◌+◌, ◌<◌, ◌≤◌, Bool, true, false, if◌then◌else◌, List, [], ◌∷◌, ◌++◌, length, take, Option, Some, None, sym, ap, subst, refl, inl, inr, arith}
 use Rattle.std.specs.Prelude.{slice_get, ◌==◌, ◌-◌, ◌||◌, nat_lt}
 use Rattle.std.specs.List.{AllByRecursion, flat_map}
 use Rattle.og_base.specs.declared.Place.{Place}
@@ -30,8 +30,11 @@ use Rattle.og_names.specs.Folding.{with_name}
 use Rattle.og_front.proofs.Elements.{each_both, each_more, each_pieces, pieces_each, front_of, back_of}
 use Rattle.og_front.proofs.Sentences.{spelt_forms}
 use Rattle.og_front.proofs.ShortNames.{named, named_system}
-use Rattle.og_judge.specs.Judging.{SourceFile, Class, Lexical, Syntactic, Forms, Names, States, Limits, classes, IsLexed, BreaksLexis, BreaksModules, LacksSyntax, IsParsed, BreaksSyntax, LacksForm, IsBuilt, BreaksForms, AreTextOf, violations_in, IsFirstOf, IsFirstAmong, IsFirstViolation}
+use Rattle.og_judge.specs.Judging.{SourceFile, Class, Lexical, Syntactic, Forms, Data, Names, States, Limits, classes, IsLexed, BreaksLexis, BreaksModules, AreOwnModules, AreModulesOf, DataBreaks, LacksSyntax, IsParsed, BreaksSyntax, LacksForm, IsBuilt, BreaksForms, AreTextOf, violations_in, IsFirstOf, IsFirstAmong, IsFirstViolation}
 use Rattle.og_judge.proofs.OneByOne.{first_in as first_file_in}
+use Rattle.og_judge.proofs.TypeNames.{ModuleIn, trees_are_in}
+use Rattle.og_judge.proofs.DataPlaces.{violation_in}
+use Rattle.og_asn1.specs.declared.syntax.ModuleTree.{ModuleTree}
 
 -- ---- places of tokens
 
@@ -211,6 +214,7 @@ module _ (number : ℕ) where
   class_in : (class : Class) (system : SystemText) → TreeIn system → AreIn (violations_in class system)
   class_in Lexical system h = tt
   class_in Syntactic system h = tt
+  class_in Data system h = tt
   class_in Forms system h = tt
   class_in Names system h =
       each_both ViolationIn (unknown_names (tables_of system) system) (repeated_from [] (signal_names system) ++ double_underlines system)
@@ -274,6 +278,24 @@ form_here v Sdl number bytes none =
     ap (λ (w : Violation). w.place.file) none.is ∙ (lexed_in Sdl number bytes (none.first ∷ none.more) none.comments none.lexes).0
 form_here v Asn number bytes none = absurd none
 
+-- the tokens of a file stand below a number of files
+below : (bound number : ℕ) (tokens : List Spanned) → number < bound → AllByRecursion (TokenIn number) tokens → AllByRecursion (λ (t : Spanned). t.place.file < bound) tokens
+below bound number [] less all = tt
+below bound number (t ∷ ts) less all = (let e = all.0 in omega (arith, e, less), below bound number ts less all.1)
+
+own_here : (bound : ℕ) (language : Language) (number : ℕ) (bytes : List ℕ) (own : List ModuleTree) → number < bound → AreOwnModules language number bytes own → AllByRecursion (ModuleIn (λ p. p.file < bound)) own
+own_here bound Sdl number bytes own less is = subst (AllByRecursion (ModuleIn (λ p. p.file < bound))) (sym is) tt
+own_here bound Asn number bytes own less is =
+    subst (AllByRecursion (ModuleIn (λ p. p.file < bound))) (sym is.are.0.trees)
+    (trees_are_in (λ p. p.file < bound) (omega (arith, less)) is.are.0.choices is.tokens (below bound number is.tokens less (lexed_in Asn number bytes is.tokens is.comments is.lexes)))
+
+-- the modules of files have names in these
+modules_here : (bound number : ℕ) (files : List SourceFile) (all : List ModuleTree) → number + length files ≤ bound → AreModulesOf number files all → AllByRecursion (ModuleIn (λ p. p.file < bound)) all
+modules_here bound number [] all less are = subst (AllByRecursion (ModuleIn (λ p. p.file < bound))) (sym are) tt
+modules_here bound number (file ∷ files) all less are =
+    subst (AllByRecursion (ModuleIn (λ p. p.file < bound))) (sym are.4)
+    (each_both (ModuleIn (λ p. p.file < bound)) are.0 are.1 (own_here bound file.language number file.bytes are.0 (omega (arith, less)) are.2) (modules_here bound (number + 1) files are.1 (omega (arith, less)) are.3))
+
 breaks_in : (class : Class) (number : ℕ) (files : List SourceFile) (v : Violation) (system : SystemText) → AreTextOf system number files → first_of (violations_in class system) ≡ Some v
     → v.place.file < number + length files
 breaks_in class number [] v system text first = absurd text
@@ -286,6 +308,7 @@ first_of_class_in Syntactic files v first =
     let h = first_file_in IsParsed (BreaksSyntax v) v (λ number file lacks. lacks_syntax_here v file.language number file.bytes lacks) 0 files first in omega (arith, h)
 first_of_class_in Forms files v first =
     let h = first_file_in IsBuilt (BreaksForms v) v (λ number file lacks. form_here v file.language number file.bytes lacks) 0 files first in omega (arith, h)
+first_of_class_in Data files v first = violation_in (λ p. p.file < length files) first.modules v (modules_here (length files) 0 files first.modules (omega arith) first.are) first.first
 first_of_class_in Names files v first = let h = breaks_in Names 0 files v first.system first.text first.first in omega (arith, h)
 first_of_class_in States files v first = let h = breaks_in States 0 files v first.system first.text first.first in omega (arith, h)
 first_of_class_in Limits files v first = let h = breaks_in Limits 0 files v first.system first.text first.first in omega (arith, h)

@@ -1,5 +1,5 @@
 -- Files are never both accepted and refused, and have one first violation and one model at most: class by class.
-use Rattle.std.proofs.Common.{◌≡◌, ◌∙◌, ℕ, ◌+◌, List, [], ◌∷◌, Option, Some, None, sym, ap, subst, refl, inl, inr}
+use Rattle.std.proofs.Common.{◌≡◌, ◌∙◌, ℕ, ◌+◌, List, [], ◌∷◌, ◌++◌, Option, Some, None, sym, ap, subst, refl, inl, inr}
 use Rattle.std.specs.Prelude.{◌⊎◌}
 use Rattle.og_base.specs.declared.Violation.{Violation}
 use Rattle.og_base.specs.Order.{first_of}
@@ -10,6 +10,7 @@ use Rattle.og_lexer.specs.declared.Comment.{Comment}
 use Rattle.og_lexer.specs.Texts.{LexesIn, FirstLexicalIn, IsTextIn}
 use Rattle.og_asn1.specs.declared.syntax.ModuleTree.{ModuleTree}
 use Rattle.og_asn1.specs.Grammar.{AreModules, FirstSyntactic}
+use Rattle.og_dataview.specs.Violations.{first_violation}
 use Rattle.og_front.specs.declared.syntax.SystemText.{SystemText}
 use Rattle.og_front.specs.Files.{IsTextOf, BreaksGrammar, IsAccepted, IsRefused, FirstViolation}
 use Rattle.og_front.specs.ModelOf.{model_of_tree}
@@ -17,9 +18,9 @@ use Rattle.og_front.specs.Rules.{or_else, first_of_rules}
 use Rattle.og_front.proofs.OneAnswer.{OneText, OneLexical, Apart, same_system, unspelt, one_first as one_violation_of_text}
 use Rattle.og_model.specs.declared.Model.{Model}
 use Rattle.og_names.proofs.Truths.{same_value as same_some}
-use Rattle.og_judge.specs.Judging.{SourceFile, Class, Lexical, Syntactic, Forms, Names, States, Limits, classes, EachKeeps, FirstBreaks, IsLexed, BreaksLexis, IsTextOfModules, BreaksModules, AreOwnModules, LacksSyntax, IsParsed, BreaksSyntax, HasForm, LacksForm, IsBuilt, BreaksForms, AreAsn, AreTextOf, violations_in, TreeKeeps, TreeBreaks, Keeps, IsFirstOf, KeepAll, IsFirstAmong, AreAccepted, IsFirstViolation, HaveModel}
+use Rattle.og_judge.specs.Judging.{SourceFile, Class, Lexical, Syntactic, Forms, Data, Names, States, Limits, classes, EachKeeps, FirstBreaks, IsLexed, BreaksLexis, IsTextOfModules, BreaksModules, AreOwnModules, AreModulesOf, LacksSyntax, IsParsed, BreaksSyntax, HasForm, LacksForm, IsBuilt, BreaksForms, AreAsn, AreTextOf, violations_in, DataKeeps, DataBreaks, TreeKeeps, TreeBreaks, Keeps, IsFirstOf, KeepAll, IsFirstAmong, AreAccepted, IsFirstViolation, HaveModel}
 use Rattle.og_judge.proofs.OneByOne.{TellsOne, first_apart, one_first}
-use Rattle.og_judge.proofs.Syntax.{OneDerivation, one_syntactic, syntax_apart}
+use Rattle.og_judge.proofs.Syntax.{OneDerivation, one_file, one_syntactic, syntax_apart}
 
 -- what the laws of texts say
 abbrev pub OneTextIn : Language → Type 0
@@ -39,6 +40,7 @@ pub record TextLaws : Type 0 where
   pub asn_texts : OneTextIn Asn
   pub asn_lexicals : OneLexicalIn Asn
   pub asn_apart : ApartIn Asn
+  pub derivations : OneDerivation
 
 -- ---- tokens
 
@@ -83,6 +85,35 @@ syntax laws = record {
   apart = λ number file v own lacks. syntax_apart_in laws file.language number file.bytes own.0 v own.1 lacks;
   one = λ number file v w x y. one_syntax_in laws file.language number file.bytes v w x y;
 }
+
+-- the modules of a file are determined
+one_own : TextLaws → (language : Language) (number : ℕ) (bytes : List ℕ) (a b : List ModuleTree) → AreOwnModules language number bytes a → AreOwnModules language number bytes b → a ≡ b
+one_own laws Sdl number bytes a b x y = x ∙ sym y
+one_own laws Asn number bytes a b x y =
+    let same = (laws.asn_texts number bytes y.tokens x.tokens y.comments x.comments y.lexes x.lexes).0 in
+    let P : List Spanned → Type 0 = λ tokens. AreModules b tokens in
+    one_file laws.derivations x.tokens a b x.are (subst P same y.are)
+
+both_joined : (a b c d : List ModuleTree) → a ≡ c → b ≡ d → a ++ b ≡ c ++ d
+both_joined a b c d x y = ap (λ (ms : List ModuleTree). ms ++ b) x ∙ ap (λ (ms : List ModuleTree). c ++ ms) y
+
+-- and those of all files
+one_modules : TextLaws → (number : ℕ) (files : List SourceFile) (a b : List ModuleTree) → AreModulesOf number files a → AreModulesOf number files b → a ≡ b
+one_modules laws number [] a b x y = x ∙ sym y
+one_modules laws number (file ∷ files) a b x y =
+    let own = one_own laws file.language number file.bytes x.0 y.0 x.2 y.2 in
+    let more = one_modules laws (number + 1) files x.1 y.1 x.3 y.3 in
+    x.4 ∙ both_joined x.0 x.1 y.0 y.1 own more ∙ sym y.4
+
+-- ---- names in modules
+
+data_apart : TextLaws → (files : List SourceFile) (v : Violation) → DataKeeps files → DataBreaks files v → ⊥
+data_apart laws files v x y =
+    let e : None ≡ Some v = sym x.none ∙ ap first_violation (one_modules laws 0 files x.modules y.modules x.are y.are) ∙ y.first in
+    cc
+
+one_of_data : TextLaws → (files : List SourceFile) (v w : Violation) → DataBreaks files v → DataBreaks files w → v ≡ w
+one_of_data laws files v w x y = same_some v w (sym x.first ∙ ap first_violation (one_modules laws 0 files x.modules y.modules x.are y.are) ∙ y.first)
 
 -- ---- forms
 
@@ -130,6 +161,7 @@ class_apart : TextLaws → (class : Class) (files : List SourceFile) (v : Violat
 class_apart laws Lexical files v kept first = first_apart IsLexed (BreaksLexis v) (λ number file. (lexis laws).apart number file v) 0 files kept first
 class_apart laws Syntactic files v kept first = first_apart IsParsed (BreaksSyntax v) (λ number file. (syntax laws).apart number file v) 0 files kept first
 class_apart laws Forms files v kept first = first_apart IsBuilt (BreaksForms v) (λ number file. (forms laws).apart number file v) 0 files kept first
+class_apart laws Data files v kept first = data_apart laws files v kept first
 class_apart laws Names files v kept first = tree_apart laws Names files v kept first
 class_apart laws States files v kept first = tree_apart laws States files v kept first
 class_apart laws Limits files v kept first = tree_apart laws Limits files v kept first
@@ -139,6 +171,7 @@ one_of_class : TextLaws → (class : Class) (files : List SourceFile) (v w : Vio
 one_of_class laws Lexical files v w x y = one_first IsLexed BreaksLexis (lexis laws) 0 files v w x y
 one_of_class laws Syntactic files v w x y = one_first IsParsed BreaksSyntax (syntax laws) 0 files v w x y
 one_of_class laws Forms files v w x y = one_first IsBuilt BreaksForms (forms laws) 0 files v w x y
+one_of_class laws Data files v w x y = one_of_data laws files v w x y
 one_of_class laws Names files v w x y = one_of_tree laws Names files v w x y
 one_of_class laws States files v w x y = one_of_tree laws States files v w x y
 one_of_class laws Limits files v w x y = one_of_tree laws Limits files v w x y

@@ -16,6 +16,7 @@ use Rattle.og_base.specs.declared.Rule.TheVariants.{F1}
 use Rattle.og_front.specs.Files.{IsTextOf, BreaksGrammar}
 use Rattle.std.proofs.lemmas.List.{append_assoc, append-nil, length-map, take_all}
 use Rattle.og_asn1.specs.declared.syntax.ModuleTree.{ModuleTree}
+use Rattle.og_dataview.specs.Violations.{first_violation}
 use Rattle.og_front.specs.declared.syntax.SystemText.{SystemText}
 use Rattle.og_front.specs.Grammar.{Spells}
 use Rattle.og_front.specs.ModelOf.{model_of_tree}
@@ -25,8 +26,8 @@ use Rattle.og_front.proofs.ShortNames.{short_spelt}
 use Rattle.og_front.proofs.WrittenTrees.{written_spelt}
 use Rattle.og_model.specs.declared.Model.{Model}
 use Rattle.og_judge.specs.declared.ModelFile.{ModelFile}
-use Rattle.og_judge.specs.Judging.{SourceFile, source, sources, Names, States, Limits, Forms, Syntactic, Lexical, EachKeeps, FirstBreaks, IsLexed, BreaksLexis, AreOwnModules, LacksSyntax, HasForm, LacksForm, IsParsed, BreaksSyntax, AreModulesOf, IsBuilt, BreaksForms, AreAsn, HasOneProcess, AreTextOf, violations_in, AreShort, IsFirstAmong, AreAccepted, IsFirstViolation, HaveModel, most_files}
-use Rattle.og_judge.specs.Answers.{IsJudged, Refuses, HasTokens, AreLexed, BreakLexis, BreakSyntax, IsNoText, AreModulesIn, AreNoModules, IsTreeOf, BreakForms, IsBuiltFrom, IsFirstOfRules}
+use Rattle.og_judge.specs.Judging.{SourceFile, source, sources, Data, Names, States, Limits, Forms, Syntactic, Lexical, EachKeeps, FirstBreaks, IsLexed, BreaksLexis, AreOwnModules, LacksSyntax, HasForm, LacksForm, IsParsed, BreaksSyntax, AreModulesOf, IsBuilt, BreaksForms, AreAsn, HasOneProcess, AreTextOf, violations_in, AreShort, IsFirstAmong, AreAccepted, IsFirstViolation, HaveModel, most_files}
+use Rattle.og_judge.specs.Answers.{IsJudged, Refuses, HasTokens, AreLexed, BreakLexis, BreakSyntax, IsNoText, AreModulesIn, AreNoModules, IsTreeOf, BreakForms, IsNamed, BreakNames}
 use Rattle.og_judge.proofs.OneByOne.{as_many, first_behind, lexed_then, parted, one_more, in_front, lexed_at, short_at}
 
 -- ---- tokens
@@ -274,25 +275,25 @@ pub forms_first : (files : List SourceFile) (texts : List Lexed) (all : List Mod
 forms_first files texts all (Broken v) lexed modules first = inr (all_lexed 0 files texts lexed, inr (all_parsed 0 files all modules, inl first))
 forms_first files texts all (NoMemory met) lexed modules first = tt
 
-pub rules_first : (files : List SourceFile) (texts : List Lexed) (all : List ModuleTree) (system : SystemText) (error : ModelError) → AreLexed 0 files texts → AreModulesOf 0 files all → IsTreeOf files system
-    → IsFirstOfRules system error → Refuses files error
-rules_first files texts all system (Broken v) lexed modules tree first =
+data_first : (files : List SourceFile) (v : Violation) (all : List ModuleTree) (system : SystemText) → AreModulesOf 0 files all → AreTextOf system 0 files
+    → (first_violation all ≡ Some v) ⊎ ((first_violation all ≡ None) × (first_of_rules system ≡ Some v)) → IsFirstAmong (Data ∷ Names ∷ States ∷ Limits ∷ []) files v
+data_first files v all system modules text (inl first) = inl (record { modules = all; are = modules; first = first })
+data_first files v all system modules text (inr rest) =
     inr (
-      all_lexed 0 files texts lexed,
-      inr (
-        all_parsed 0 files all modules,
-        inr (
-          tree.each,
-          tree_first files v system tree.text (by_some (first_of (violations_in Names system)) (first_of (violations_in States system)) (first_of (violations_in Limits system)) v first),
-        ),
-      ),
+      record { modules = all; are = modules; none = rest.0 },
+      tree_first files v system text (by_some (first_of (violations_in Names system)) (first_of (violations_in States system)) (first_of (violations_in Limits system)) v rest.1),
     )
+
+rules_first : (files : List SourceFile) (texts : List Lexed) (all : List ModuleTree) (system : SystemText) (error : ModelError) → AreLexed 0 files texts → AreModulesOf 0 files all → IsTreeOf files system
+    → BreakNames all system error → Refuses files error
+rules_first files texts all system (Broken v) lexed modules tree first =
+    inr (all_lexed 0 files texts lexed, inr (all_parsed 0 files all modules, inr (tree.each, data_first files v all system modules tree.text first)))
 rules_first files texts all system (NoMemory met) lexed modules tree first = tt
 
-pub judged : (files : List SourceFile) (texts : List Lexed) (all : List ModuleTree) (system : SystemText) (model : Model) → AreLexed 0 files texts → AreModulesOf 0 files all → IsTreeOf files system
-    → IsBuiltFrom system model → IsJudged files model
-judged files texts all system model lexed modules tree built =
-    let none = by_none (first_of (violations_in Names system)) (first_of (violations_in States system)) (first_of (violations_in Limits system)) built.keeps in
+judged : (files : List SourceFile) (texts : List Lexed) (all : List ModuleTree) (system : SystemText) (model : Model) → AreLexed 0 files texts → AreModulesOf 0 files all → IsTreeOf files system
+    → IsNamed all system model → IsJudged files model
+judged files texts all system model lexed modules tree named =
+    let none = by_none (first_of (violations_in Names system)) (first_of (violations_in States system)) (first_of (violations_in Limits system)) named.built.keeps in
     record {
       have = record {
         accepted = (
@@ -302,26 +303,29 @@ judged files texts all system model lexed modules tree built =
             (
               tree.each,
               (
-                record { system = system; text = tree.text; none = none.0 },
-                (record { system = system; text = tree.text; none = none.1 }, (record { system = system; text = tree.text; none = none.2 }, tt)),
+                record { modules = all; are = modules; none = named.none },
+                (
+                  record { system = system; text = tree.text; none = none.0 },
+                  (record { system = system; text = tree.text; none = none.1 }, (record { system = system; text = tree.text; none = none.2 }, tt)),
+                ),
               ),
             ),
           ),
         );
         system = system;
         text = tree.text;
-        is = built.is;
+        is = named.built.is;
       };
-      can = built.can;
+      can = named.built.can;
     }
 
 -- the same of what a call answered
 pub judged_if : (files : List SourceFile) (texts : List Lexed) (all : List ModuleTree) (system : SystemText) (result : Result Model ModelError) → AreLexed 0 files texts → AreModulesOf 0 files all → IsTreeOf files system
-    → IfOk result (IsBuiltFrom system) → IfOk result (IsJudged files)
+    → IfOk result (IsNamed all system) → IfOk result (IsJudged files)
 judged_if files texts all system (Ok model) lexed modules tree built = judged files texts all system model lexed modules tree built
 judged_if files texts all system (Err error) lexed modules tree built = tt
 
 pub rules_if : (files : List SourceFile) (texts : List Lexed) (all : List ModuleTree) (system : SystemText) (result : Result Model ModelError) → AreLexed 0 files texts → AreModulesOf 0 files all → IsTreeOf files system
-    → IfErr result (IsFirstOfRules system) → IfErr result (Refuses files)
+    → IfErr result (BreakNames all system) → IfErr result (Refuses files)
 rules_if files texts all system (Ok model) lexed modules tree first = tt
 rules_if files texts all system (Err error) lexed modules tree first = rules_first files texts all system error lexed modules tree first

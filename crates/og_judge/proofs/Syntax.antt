@@ -65,6 +65,10 @@ hidden here [] b (z ∷ c) d e less within passes = let h : here ≡ z = cc in l
 hidden here (z ∷ a) b [] d e less within passes = omega (arith, less)
 hidden here (z ∷ a) b (u ∷ c) d e less within passes = let rest : a ++ here ∷ b ≡ c ++ d = cc in hidden here a b c d rest (omega (arith, less)) within.1 passes
 
+-- nor does a front of counts that is within the limit
+passed : {limit : ℕ} {front counts : List ℕ} (pass : PassAt limit front counts) (before later : List ℕ) → counts ≡ before ++ later → length front < length before → AreWithin limit before → ⊥
+passed pass before later e less within = hidden pass.here pass.before pass.later before later (sym pass.parts ∙ e) (let a = pass.each in omega (arith, a, less)) within pass.passes
+
 -- ---- over any table
 
 module _ (table : List Symbol) (last limit : ℕ) where
@@ -83,7 +87,7 @@ module _ (table : List Symbol) (last limit : ℕ) where
       let apart = splits w.front w.deep w.behind front x back (sym w.parts ∙ e) (let b = w.before in omega (arith, less, b)) in
       let same : front ++ more ≡ w.front ++ w.deep ∷ (apart.0 ++ more) = ap (λ (f : List ℕ). f ++ more) apart.1 ∙ append_assoc w.front (w.deep ∷ apart.0) more in
       let pass = w.each (apart.0 ++ more) choices counts (subst (λ (ts : List ℕ). Derived table last ts choices) same derived) nests in
-      hidden pass.here pass.before pass.later before later (sym pass.parts ∙ parts) (let b = w.before in let a = pass.each in omega (arith, less, b, a, len)) within pass.passes
+      passed pass before later parts (let b = w.before in omega (arith, less, b, len)) within
 
   -- the first wrong token is one
   one_wrong : {tokens : List ℕ} {p q : ℕ} → IsFirstWrong table last limit tokens p → IsFirstWrong table last limit tokens q → p < q → ⊥

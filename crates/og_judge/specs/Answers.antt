@@ -1,5 +1,5 @@
 -- What the parts of the judgement answer.
-use Rattle.std.specs.Prelude.{◌≡◌, ℕ, ◌+◌, List, [], ◌∷◌, Some, None}
+use Rattle.std.specs.Prelude.{◌≡◌, ◌⊎◌, ℕ, ◌+◌, List, [], ◌∷◌, Some, None}
 use Rattle.og_base.specs.declared.ModelError.{ModelError}
 use Rattle.og_base.specs.declared.ModelError.TheVariants.{Broken, NoMemory}
 use Rattle.og_base.specs.declared.Violation.{Violation}
@@ -11,6 +11,7 @@ use Rattle.og_front.specs.Written.{IsWrittenTree}
 use Rattle.og_front.specs.Grammar.{Spells}
 use Rattle.og_asn1.specs.declared.syntax.ModuleTree.{ModuleTree}
 use Rattle.og_asn1.specs.Grammar.{AreModules, Refuses as RefusesModules}
+use Rattle.og_dataview.specs.Violations.{first_violation}
 use Rattle.og_base.specs.declared.Rule.TheVariants.{F1}
 use Rattle.og_lexer.specs.declared.Language.{Language}
 use Rattle.og_lexer.specs.declared.Language.TheVariants.{Sdl, Asn}
@@ -98,3 +99,14 @@ pub record IsBuiltFrom (system : SystemText) (model : Model) : Type 0 where
 abbrev pub IsFirstOfRules : SystemText → ModelError → Type 0
 IsFirstOfRules system (Broken v) = first_of_rules system ≡ Some v
 IsFirstOfRules system (NoMemory met) = Unit {0}
+
+-- ---- rules on names in modules, and then those on the tree
+
+-- both keep their rules, and this is the model of the tree
+pub record IsNamed (modules : List ModuleTree) (system : SystemText) (model : Model) : Type 0 where
+  pub none : first_violation modules ≡ None
+  pub built : IsBuiltFrom system model
+
+abbrev pub BreakNames : List ModuleTree → SystemText → ModelError → Type 0
+BreakNames modules system (Broken v) = (first_violation modules ≡ Some v) ⊎ ((first_violation modules ≡ None) × (first_of_rules system ≡ Some v))
+BreakNames modules system (NoMemory met) = Unit {0}

@@ -14,6 +14,7 @@ use Rattle.og_lexer.specs.declared.Comment.{Comment}
 use Rattle.og_lexer.specs.Texts.{LexesIn, FirstLexicalIn, IsTextIn}
 use Rattle.og_asn1.specs.declared.syntax.ModuleTree.{ModuleTree}
 use Rattle.og_asn1.specs.Grammar.{AreModules, FirstSyntactic}
+use Rattle.og_dataview.specs.Violations.{first_violation}
 use Rattle.og_front.specs.declared.syntax.SystemText.{SystemText}
 use Rattle.og_front.specs.Files.{IsTextOf, BreaksGrammar}
 use Rattle.og_front.specs.ModelOf.{model_of_tree}
@@ -36,19 +37,20 @@ source file = record { language = file.language; bytes = file.bytes.items }
 abbrev pub sources : List ModelFile → List SourceFile
 sources files = map source files
 
--- The classes of rules that are built: L, S in files of ASN.1, F, N in files of SDL/PR, A and M. The other ones stand between these:
--- S in files of SDL/PR before F, N in files of ASN.1 after it, T and G after the names.
+-- The classes of rules that are built: L, S in files of ASN.1, F, N in files of ASN.1, N in files of SDL/PR, A and M. The other ones
+-- stand between these: S in files of SDL/PR before F, T and G after the names.
 pub data Class : Type 0 where
   Lexical : Class
   Syntactic : Class
   Forms : Class
+  Data : Class
   Names : Class
   States : Class
   Limits : Class
 
 -- in the order in which they are looked at
 abbrev pub classes : List Class
-classes = Lexical ∷ Syntactic ∷ Forms ∷ Names ∷ States ∷ Limits ∷ []
+classes = Lexical ∷ Syntactic ∷ Forms ∷ Data ∷ Names ∷ States ∷ Limits ∷ []
 
 -- ---- file by file
 
@@ -153,6 +155,18 @@ violations_in _ system = []
 
 -- ---- classes
 
+-- the modules of all files together violate no rule on names
+pub record DataKeeps (files : List SourceFile) : Type 0 where
+  pub modules : List ModuleTree
+  pub are : AreModulesOf 0 files modules
+  pub none : first_violation modules ≡ None
+
+-- the first violation of the rules on names in the modules of all files together
+pub record DataBreaks (files : List SourceFile) (v : Violation) : Type 0 where
+  pub modules : List ModuleTree
+  pub are : AreModulesOf 0 files modules
+  pub first : first_violation modules ≡ Some v
+
 -- the tree of the files violates no rule of the class
 pub record TreeKeeps (class : Class) (files : List SourceFile) : Type 0 where
   pub system : SystemText
@@ -170,6 +184,7 @@ abbrev pub Keeps : Class → List SourceFile → Type 0
 Keeps Lexical files = EachKeeps IsLexed 0 files
 Keeps Syntactic files = EachKeeps IsParsed 0 files
 Keeps Forms files = EachKeeps IsBuilt 0 files
+Keeps Data files = DataKeeps files
 Keeps Names files = TreeKeeps Names files
 Keeps States files = TreeKeeps States files
 Keeps Limits files = TreeKeeps Limits files
@@ -179,6 +194,7 @@ abbrev pub IsFirstOf : Class → List SourceFile → Violation → Type 0
 IsFirstOf Lexical files v = FirstBreaks IsLexed (BreaksLexis v) 0 files
 IsFirstOf Syntactic files v = FirstBreaks IsParsed (BreaksSyntax v) 0 files
 IsFirstOf Forms files v = FirstBreaks IsBuilt (BreaksForms v) 0 files
+IsFirstOf Data files v = DataBreaks files v
 IsFirstOf Names files v = TreeBreaks Names files v
 IsFirstOf States files v = TreeBreaks States files v
 IsFirstOf Limits files v = TreeBreaks Limits files v

@@ -3,13 +3,14 @@ ghost use Rattle.std.specs.Prelude.{◌≡◌, ◌≤◌, IfOk, IfErr, length};
 ghost use Rattle.og_front.specs.Names.{HasShortNames};
 ghost use Rattle.og_front.specs.Written.{IsWrittenTree};
 ghost use Rattle.og_judge.specs.Judging.{HasOneProcess, AreShort, AreModulesOf, most_files, sources};
-ghost use Rattle.og_judge.specs.Answers.{IsJudged, Refuses, AreLexed, IsBuiltFrom, IsFirstOfRules};
+ghost use Rattle.og_judge.specs.Answers.{IsJudged, Refuses, AreLexed, IsNamed, BreakNames, IsBuiltFrom, IsFirstOfRules};
 
 use crate::ModelFile;
 use crate::texts::lex_files;
 use crate::trees::{modules_of, tree_of};
 use og_asn1::ModuleTree;
 use og_base::ModelError;
+use og_dataview::first_violation as names_violation;
 use og_front::{SystemText, first_violation, model_of, tables_of};
 use og_lexer::Lexed;
 use og_model::Model;
@@ -59,7 +60,24 @@ fn judge_modules(
 {
     match tree_of(alloc, files, texts) {
         Err(error) => Err(error),
-        Ok(system) => model_of_system(alloc, &system),
+        Ok(system) => judge_names(alloc, modules, &system),
+    }
+}
+
+/// The model of a tree that keeps the rules, where the modules keep those on names; else their first violation.
+fn judge_names(
+    alloc: Global,
+    modules: &[ModuleTree],
+    system: &SystemText,
+) -> Result<Model, ModelError>
+    requires short { HasShortNames system.now }
+    requires written { IsWrittenTree system.now }
+    ensures named { IfOk result (IsNamed modules.now system.now) }
+    ensures broken { IfErr result (BreakNames modules.now system.now) }
+{
+    match names_violation(alloc, modules)? {
+        Some(violation) => Err(ModelError::Broken(violation)),
+        None => model_of_system(alloc, system),
     }
 }
 

@@ -6,6 +6,7 @@ ghost use Rattle.og_model.specs.declared.Model.{Model};
 ghost use Rattle.og_judge.specs.Judging.{SourceFile, sdl_file, AreTextOf, AreAccepted, IsFirstViolation, HaveModel};
 
 use og_front::one_answer;
+use og_grammar::one_derivation;
 use og_lexer::{one_asn_reading, one_reading};
 
 /// A single file of SDL/PR is accepted or has a first violation. Any model files have one first violation at most, and none where
@@ -20,5 +21,6 @@ pub fn one_judgement()
 {
     one_reading();
     one_asn_reading();
+    one_derivation();
     one_answer();
 }

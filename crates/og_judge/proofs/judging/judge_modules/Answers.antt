@@ -7,8 +7,8 @@ returns-in-Err-clause-refused c = forms_first (sources c.args.files.now) c.args.
 
 pub returns-in-Ok-clause-accepted : goal.returns-in-Ok-clause-accepted
 returns-in-Ok-clause-accepted c =
-    judged_if (sources c.args.files.now) c.args.texts.now c.args.modules.now c.in-Ok.system c.model_of_system.result c.requires.lexed c.requires.parsed c.in-Ok.ensures.found c.model_of_system.ensures.built
+    judged_if (sources c.args.files.now) c.args.texts.now c.args.modules.now c.in-Ok.system c.judge_names.result c.requires.lexed c.requires.parsed c.in-Ok.ensures.found c.judge_names.ensures.named
 
 pub returns-in-Ok-clause-refused : goal.returns-in-Ok-clause-refused
 returns-in-Ok-clause-refused c =
-    rules_if (sources c.args.files.now) c.args.texts.now c.args.modules.now c.in-Ok.system c.model_of_system.result c.requires.lexed c.requires.parsed c.in-Ok.ensures.found c.model_of_system.ensures.broken
+    rules_if (sources c.args.files.now) c.args.texts.now c.args.modules.now c.in-Ok.system c.judge_names.result c.requires.lexed c.requires.parsed c.in-Ok.ensures.found c.judge_names.ensures.broken

@@ -11,6 +11,7 @@ returns-clause-apart c = never_both (record {
   asn_texts = c.one_asn_reading.ensures.tokens;
   asn_lexicals = c.one_asn_reading.ensures.violation;
   asn_apart = c.one_asn_reading.ensures.apart;
+  derivations = c.one_derivation.ensures;
 })
 
 pub returns-clause-one : goal.returns-clause-one
@@ -21,6 +22,7 @@ returns-clause-one c = one_violation (record {
   asn_texts = c.one_asn_reading.ensures.tokens;
   asn_lexicals = c.one_asn_reading.ensures.violation;
   asn_apart = c.one_asn_reading.ensures.apart;
+  derivations = c.one_derivation.ensures;
 })
 
 pub returns-clause-among : goal.returns-clause-among
@@ -34,6 +36,7 @@ returns-clause-model c = one_model (record {
   asn_texts = c.one_asn_reading.ensures.tokens;
   asn_lexicals = c.one_asn_reading.ensures.violation;
   asn_apart = c.one_asn_reading.ensures.apart;
+  derivations = c.one_derivation.ensures;
 })
 
 pub returns-clause-each : goal.returns-clause-each
@@ -47,4 +50,5 @@ returns-clause-tree c = one_tree (record {
   asn_texts = c.one_asn_reading.ensures.tokens;
   asn_lexicals = c.one_asn_reading.ensures.violation;
   asn_apart = c.one_asn_reading.ensures.apart;
+  derivations = c.one_derivation.ensures;
 }) 0

@@ -1,0 +1,4 @@
+pub mod TreeNames
+pub mod BoundNames
+pub mod TypeNames
+pub mod DataPlaces
