@@ -1,4 +1,0 @@
-pub mod TreeNames
-pub mod BoundNames
-pub mod TypeNames
-pub mod DataPlaces
