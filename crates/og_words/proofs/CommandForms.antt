@@ -11,7 +11,7 @@ use Rattle.std.specs.declared.string.String.{String}
 use Rattle.std.specs.List.{AllByRecursion}
 use Rattle.std.proofs.lemmas.List.{take_more, map-append}
 use Rattle.og_words.specs.Asked.{texts}
-use Rattle.og_words.specs.Words.{HasEnding, IsSdlFile, IsModelFile, HasSdlFile, IsSteps}
+use Rattle.og_words.specs.Words.{HasEnding, IsSdlFile, IsAsnFile, IsModelFile, HasOneSdlFile, IsSteps}
 
 -- ---- endings
 
@@ -68,33 +68,29 @@ each_at P (w ∷ words) (suc i) d less all = each_at P words i d (omega arith) a
 pub stands_at : (words : List (String Global)) (i : ℕ) (d : String Global) (text word : List ℕ) → i < length words → text ≡ string_bytes (get_or words i d) → text ≡ word → AllByRecursion (λ other. other ≢ word) (texts words) → ⊥
 stands_at words i d text word less is same all = each_at (λ other. other ≢ word) words i d less all (sym is ∙ same)
 
-sdl_at : (words : List (String Global)) (i : ℕ) (d : String Global) → i < length words → IsSdlFile (string_bytes (get_or words i d)) → HasSdlFile (texts words)
-sdl_at [] i d less is = absurd (omega arith)
-sdl_at (w ∷ words) zero d less is = inl is
-sdl_at (w ∷ words) (suc i) d less is = inr (sdl_at words i d (omega arith) is)
+-- what holds of the words so far, and of one more
+pub each_word_more : (P : List ℕ → Type 0) (words : List (String Global)) (i : ℕ) (d : String Global) (text : List ℕ) → i < length words → text ≡ string_bytes (get_or words i d) → AllByRecursion P (texts (take i words)) → P text
+    → AllByRecursion P (texts (take (i + 1) words))
+each_word_more P words i d text less is all holds =
+    subst (AllByRecursion P) (sym (texts_more words i d less)) (each_both P (texts (take i words)) (string_bytes (get_or words i d) ∷ []) all (subst P is holds, tt))
 
-pub has_sdl_at : (words : List (String Global)) (i : ℕ) (d : String Global) (text : List ℕ) → i < length words → text ≡ string_bytes (get_or words i d) → IsSdlFile text → HasSdlFile (texts words)
-has_sdl_at words i d text less is sdl = sdl_at words i d less (subst IsSdlFile is sdl)
+-- a word that is not such stands among them
+pub other_at : (P : List ℕ → Type 0) (words : List (String Global)) (i : ℕ) (d : String Global) (text : List ℕ) → i < length words → text ≡ string_bytes (get_or words i d) → (P text → ⊥) → AllByRecursion P (texts words) → ⊥
+other_at P words i d text less is other all = other (subst P (sym is) (each_at P words i d less all))
 
-last_or_before : (names : List (List ℕ)) (name : List ℕ) → HasSdlFile (names ++ name ∷ []) → HasSdlFile names ⊎ IsSdlFile name
-last_or_before [] name (inl is) = inr is
-last_or_before [] name (inr more) = absurd more
-last_or_before (n ∷ names) name (inl is) = inl (inl is)
-last_or_before (n ∷ names) name (inr more) = elim (last_or_before names name more) [ inl before ↦ inl (inr before) | inr is ↦ inr is ]
+-- ---- the one file of SDL/PR
 
-neither_is : (names : List (List ℕ)) (name : List ℕ) → (HasSdlFile names → ⊥) → (IsSdlFile name → ⊥) → HasSdlFile (names ++ name ∷ []) → ⊥
-neither_is names name none other has = elim (last_or_before names name has) [ inl before ↦ none before | inr is ↦ other is ]
+pub sdl_in_front : (file text : List ℕ) (files : List (List ℕ)) (rest : Bool) → text ≡ file → IsSdlFile text → (IsSdlFile file → IsAsnFile file → ⊥) → IsTrue rest ↔ AllByRecursion IsAsnFile files → IsTrue rest ↔ HasOneSdlFile (file ∷ files)
+sdl_in_front file text files rest same sdl apart tells = (
+  λ e. inl (subst IsSdlFile same sdl, tells.0 e),
+  λ has. elim has [ inl one ↦ tells.1 one.1 | inr asn ↦ absurd (apart (subst IsSdlFile same sdl) asn.0) ],
+)
 
-pub no_sdl_more : (words : List (String Global)) (i : ℕ) (d : String Global) (text : List ℕ) → i < length words → text ≡ string_bytes (get_or words i d) → (HasSdlFile (texts (take i words)) → ⊥) → (IsSdlFile text → ⊥)
-    → HasSdlFile (texts (take (i + 1) words)) → ⊥
-no_sdl_more words i d text less is none other has =
-    neither_is (texts (take i words)) (string_bytes (get_or words i d)) none (λ sdl. other (subst IsSdlFile (sym is) sdl)) (subst HasSdlFile (texts_more words i d less) has)
-
-pub each_model_more : (words : List (String Global)) (i : ℕ) (d : String Global) (text : List ℕ) → i < length words → text ≡ string_bytes (get_or words i d) → AllByRecursion IsModelFile (texts (take i words)) → IsModelFile text
-    → AllByRecursion IsModelFile (texts (take (i + 1) words))
-each_model_more words i d text less is all model =
-    subst (AllByRecursion IsModelFile) (sym (texts_more words i d less))
-    (each_both IsModelFile (texts (take i words)) (string_bytes (get_or words i d) ∷ []) all (subst IsModelFile is model, tt))
+pub asn_in_front : (file text : List ℕ) (files all : List (List ℕ)) → text ≡ file → IsModelFile file → (IsSdlFile text → ⊥) → HasOneSdlFile (file ∷ files) ↔ HasOneSdlFile all → HasOneSdlFile files ↔ HasOneSdlFile all
+asn_in_front file text files all same model other tells = (
+  λ has. elim model [ inl sdl ↦ absurd (other (subst IsSdlFile (sym same) sdl)) | inr asn ↦ tells.0 (inr (asn, has)) ],
+  λ has. elim (tells.1 has) [ inl one ↦ absurd (other (subst IsSdlFile (sym same) one.0)) | inr later ↦ later.1 ],
+)
 
 -- the words in front and those behind, in texts
 pub texts_joined : (words front back : List (String Global)) → words ≡ front ++ back → texts words ≡ texts front ++ texts back

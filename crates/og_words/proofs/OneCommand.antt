@@ -1,12 +1,12 @@
 -- The words of a command are cut in one way: its name, the longest front of model files, and what stands behind them. So words ask
 -- for at most one command.
-use Rattle.std.proofs.Common.{◌≡◌, ℕ, List, [], ◌∷◌, ◌++◌, get_or, sym, ◌∙◌, ap, subst, inl, inr, refl, arith, codes, decimal, string_bytes, Global}
+use Rattle.std.proofs.Common.{◌≡◌, ◌↔◌, ℕ, Bool, IsTrue, List, [], ◌∷◌, ◌++◌, get_or, sym, ◌∙◌, ap, subst, inl, inr, refl, arith, codes, decimal, string_bytes, Global}
 use Rattle.std.specs.List.{AllByRecursion}
 use Rattle.std.proofs.lemmas.Fmt.{decimal_injective}
 use Rattle.std.specs.declared.string.String.{String}
-use Rattle.og_words.proofs.CommandForms.{texts_joined}
+use Rattle.og_words.proofs.CommandForms.{texts_joined, sdl_in_front}
 use Rattle.og_words.specs.Asked.{texts, BeginsNoFile, FitsNone, IsStimuliWith}
-use Rattle.og_words.specs.Words.{Command, Check, Compile, Run, Simulate, HasEnding, IsModelFile, IsProgramFile, IsStimuliFile, AreModelFiles, GivesSteps, name_of, files_of, StandsBehind, AsksFor, IsNoCommand}
+use Rattle.og_words.specs.Words.{Command, Check, Compile, Run, Simulate, HasEnding, IsSdlFile, IsAsnFile, HasOneSdlFile, IsModelFile, IsProgramFile, IsStimuliFile, AreModelFiles, GivesSteps, name_of, files_of, StandsBehind, AsksFor, IsNoCommand}
 
 -- ---- endings
 
@@ -27,6 +27,26 @@ model_ends : (name : List ℕ) → IsModelFile name → (last_byte 0 name ≡ 99
 model_ends name (inl h) = let e : last_byte 0 name ≡ 114 = ends_in name 46 (112 ∷ 114 ∷ []) h in (λ d. omega (arith, e, d), λ d. omega (arith, e, d))
 model_ends name (inr (inl h)) = let e : last_byte 0 name ≡ 110 = ends_in name 46 (97 ∷ 115 ∷ 110 ∷ []) h in (λ d. omega (arith, e, d), λ d. omega (arith, e, d))
 model_ends name (inr (inr h)) = let e : last_byte 0 name ≡ 49 = ends_in name 46 (97 ∷ 115 ∷ 110 ∷ 49 ∷ []) h in (λ d. omega (arith, e, d), λ d. omega (arith, e, d))
+
+-- a name that ends in `r` is no name of a file of ASN.1
+pub two_languages : (name : List ℕ) → IsSdlFile name → IsAsnFile name → ⊥
+two_languages name sdl (inl asn) =
+    let e : last_byte 0 name ≡ 114 = ends_in name 46 (112 ∷ 114 ∷ []) sdl in
+    let d : last_byte 0 name ≡ 110 = ends_in name 46 (97 ∷ 115 ∷ 110 ∷ []) asn in
+    omega (arith, e, d)
+two_languages name sdl (inr asn) =
+    let e : last_byte 0 name ≡ 114 = ends_in name 46 (112 ∷ 114 ∷ []) sdl in
+    let d : last_byte 0 name ≡ 49 = ends_in name 46 (97 ∷ 115 ∷ 110 ∷ 49 ∷ []) asn in
+    omega (arith, e, d)
+
+-- the file of SDL/PR is met
+pub one_here : (rest : List (String Global)) (file : String Global) (others : List (String Global)) (text : List ℕ) (all : List (List ℕ)) (result : Bool) → rest ≡ file ∷ others → text ≡ string_bytes file → IsSdlFile text
+    → IsTrue result ↔ AllByRecursion IsAsnFile (texts others) → HasOneSdlFile (texts rest) ↔ HasOneSdlFile all → IsTrue result ↔ HasOneSdlFile all
+one_here rest file others text all result e same sdl tells inside =
+    let P : List (String Global) → Type 0 = λ words. HasOneSdlFile (texts words) ↔ HasOneSdlFile all in
+    let here = subst P e inside in
+    let front = sdl_in_front (string_bytes file) text (texts others) result same sdl (two_languages (string_bytes file)) tells in
+    (λ r. here.0 (front.0 r), λ has. front.1 (here.1 has))
 
 program_is_other : (name : List ℕ) → IsProgramFile name → IsModelFile name → ⊥
 program_is_other name program model = (model_ends name model).0 (ends_in name 46 (99 ∷ []) program)

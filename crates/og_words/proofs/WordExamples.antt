@@ -2,9 +2,9 @@
 use Rattle.std.proofs.Common.{◌≡◌, ◌≢◌, ℕ, List, [], ◌∷◌, refl, inl, inr, ap, arith, codes}
 use Rattle.std.specs.List.{AllByRecursion}
 use Rattle.std.specs.Fmt.{digits}
-use Rattle.og_words.specs.Words.{Check, Compile, Run, Simulate, IsSdlFile, IsAsnFile, IsModelFile, IsProgramFile, IsStimuliFile, AreDifferent, HasSdlFile, AreModelFiles, AsksFor, IsNoCommand}
+use Rattle.og_words.specs.Words.{Check, Compile, Run, Simulate, IsSdlFile, IsAsnFile, IsModelFile, IsProgramFile, IsStimuliFile, AreDifferent, HasOneSdlFile, AreModelFiles, AsksFor, IsNoCommand}
 use Rattle.og_words.proofs.CommandForms.{short_is_none}
-use Rattle.og_words.proofs.OneCommand.{last_byte, ends_in, no_files}
+use Rattle.og_words.proofs.OneCommand.{last_byte, two_languages, no_files}
 
 m_pr : IsSdlFile (codes "m.pr")
 m_pr = (codes "m", omega arith, refl)
@@ -22,7 +22,7 @@ s_stim : IsStimuliFile (codes "s.stim")
 s_stim = (codes "s", omega arith, refl)
 
 one_file : AreModelFiles (codes "m.pr" ∷ [])
-one_file = record { each = (inl m_pr, tt); few = omega arith; different = (tt, tt); process = inl m_pr; taken = refl }
+one_file = record { each = (inl m_pr, tt); few = omega arith; different = (tt, tt); process = inl (m_pr, tt) }
 
 pub check : AsksFor (codes "check" ∷ codes "m.pr" ∷ []) (Check (codes "m.pr" ∷ []))
 check = record { behind = []; are = refl; files = one_file; stands = refl }
@@ -51,9 +51,9 @@ no_name (inr (inr h)) = short_is_none (codes ".pr") (codes ".asn1") (omega arith
 pub no_stem : IsNoCommand (codes "cc" ∷ codes ".pr" ∷ [])
 no_stem = no_files (codes "cc" ∷ codes ".pr" ∷ []) (codes "cc") [] (codes ".pr" ∷ []) (record { are = refl; each = tt; stops = no_name }) (λ are. are.process)
 
-no_sdl : HasSdlFile (codes "d.asn" ∷ []) → ⊥
-no_sdl (inl h) = let e : last_byte 0 (codes "d.asn") ≡ 114 = ends_in (codes "d.asn") 46 (112 ∷ 114 ∷ []) h in let f : 110 ≡ 114 = e in omega (arith, f)
-no_sdl (inr more) = more
+no_sdl : HasOneSdlFile (codes "d.asn" ∷ []) → ⊥
+no_sdl (inl h) = two_languages (codes "d.asn") h.0 d_asn
+no_sdl (inr more) = more.1
 
 pub no_process : IsNoCommand (codes "cc" ∷ codes "d.asn" ∷ [])
 no_process = no_files (codes "cc" ∷ codes "d.asn" ∷ []) (codes "cc") (codes "d.asn" ∷ []) [] (record { are = refl; each = (inr d_asn, tt); stops = tt }) (λ are. no_sdl are.process)
@@ -61,15 +61,30 @@ no_process = no_files (codes "cc" ∷ codes "d.asn" ∷ []) (codes "cc") (codes 
 differ : (a b : List ℕ) → (last_byte 0 a ≡ last_byte 0 b → ⊥) → a ≢ b
 differ a b h e = h (ap (last_byte 0) e)
 
-pub in_any_order : AllByRecursion IsModelFile (codes "d.asn" ∷ codes "m.pr" ∷ codes "e.asn1" ∷ []) × HasSdlFile (codes "d.asn" ∷ codes "m.pr" ∷ codes "e.asn1" ∷ []) × AreDifferent (codes "d.asn" ∷ codes "m.pr" ∷ codes "e.asn1" ∷ [])
-in_any_order = (
-  (inr d_asn, (inl m_pr, (inr e_asn1, tt))),
-  inr (inl m_pr),
-  (
+any_order : AreModelFiles (codes "d.asn" ∷ codes "m.pr" ∷ codes "e.asn1" ∷ [])
+any_order = record {
+  each = (inr d_asn, (inl m_pr, (inr e_asn1, tt)));
+  few = omega arith;
+  different = (
     (differ (codes "m.pr") (codes "d.asn") (λ e. let f : 114 ≡ 110 = e in omega (arith, f)), (differ (codes "e.asn1") (codes "d.asn") (λ e. let f : 49 ≡ 110 = e in omega (arith, f)), tt)),
     ((differ (codes "e.asn1") (codes "m.pr") (λ e. let f : 49 ≡ 114 = e in omega (arith, f)), tt), (tt, tt)),
-  ),
-)
+  );
+  process = inr (d_asn, inl (m_pr, (e_asn1, tt)));
+}
+
+pub in_any_order : AsksFor (codes "check" ∷ codes "d.asn" ∷ codes "m.pr" ∷ codes "e.asn1" ∷ []) (Check (codes "d.asn" ∷ codes "m.pr" ∷ codes "e.asn1" ∷ []))
+in_any_order = record { behind = []; are = refl; files = any_order; stands = refl }
+
+n_pr : IsSdlFile (codes "n.pr")
+n_pr = (codes "n", omega arith, refl)
+
+no_two : HasOneSdlFile (codes "m.pr" ∷ codes "n.pr" ∷ []) → ⊥
+no_two (inl h) = two_languages (codes "n.pr") n_pr h.1.0
+no_two (inr h) = two_languages (codes "m.pr") m_pr h.0
+
+pub two_processes : IsNoCommand (codes "check" ∷ codes "m.pr" ∷ codes "n.pr" ∷ [])
+two_processes =
+    no_files (codes "check" ∷ codes "m.pr" ∷ codes "n.pr" ∷ []) (codes "check") (codes "m.pr" ∷ codes "n.pr" ∷ []) [] (record { are = refl; each = (inl m_pr, (inl n_pr, tt)); stops = tt }) (λ are. no_two are.process)
 
 pub twice : AreDifferent (codes "m.pr" ∷ codes "d.asn" ∷ codes "m.pr" ∷ []) → ⊥
 twice different = different.0.1.0 refl

@@ -45,22 +45,17 @@ abbrev pub AreDifferent : List (List ℕ) → Type 0
 AreDifferent [] = Unit {0}
 AreDifferent (word ∷ words) = AllByRecursion (λ other. other ≢ word) words × AreDifferent words
 
--- one of the files is one of SDL/PR
-abbrev pub HasSdlFile : List (List ℕ) → Type 0
-HasSdlFile [] = ⊥
-HasSdlFile (file ∷ files) = IsSdlFile file ⊎ HasSdlFile files
+-- one of the files is one of SDL/PR, and all others are of ASN.1
+abbrev pub HasOneSdlFile : List (List ℕ) → Type 0
+HasOneSdlFile [] = ⊥
+HasOneSdlFile (file ∷ files) = (IsSdlFile file × AllByRecursion IsAsnFile files) ⊎ (IsAsnFile file × HasOneSdlFile files)
 
--- The lists of files that can be read so far: a single file. Words with any other list are no command yet.
-abbrev pub CanBeTaken : List (List ℕ) → Type 0
-CanBeTaken files = length files ≡ 1
-
--- 1 to 64 different files, one of them of SDL/PR, in any order
+-- 1 to 64 different files, one of them of SDL/PR and the others of ASN.1, in any order
 pub record AreModelFiles (files : List (List ℕ)) : Type 0 where
   pub each : AllByRecursion IsModelFile files
   pub few : length files ≤ most_files
   pub different : AreDifferent files
-  pub process : HasSdlFile files
-  pub taken : CanBeTaken files
+  pub process : HasOneSdlFile files
 
 -- ---- the number of statements
 

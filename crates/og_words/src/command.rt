@@ -2,7 +2,7 @@
 ghost use Rattle.std.specs.Prelude.{◌≡◌, ◌≢◌, ℕ, List, ◌∷◌, ◌++◌, ◌↔◌, IfSome, IfNone, IsTrue, length, string_bytes, codes, decimal};
 ghost use Rattle.std.specs.List.{AllByRecursion};
 ghost use Rattle.og_words.specs.Asked.{texts, asked, BeginsNoFile, Fits, FitsNone, IsStimuliWith};
-ghost use Rattle.og_words.specs.Words.{AsksFor, IsNoCommand, HasEnding, IsSdlFile, IsAsnFile, IsModelFile, IsProgramFile, IsStimuliFile, AreDifferent, HasSdlFile, CanBeTaken, AreModelFiles, IsSteps, GivesSteps};
+ghost use Rattle.og_words.specs.Words.{AsksFor, IsNoCommand, HasEnding, IsSdlFile, IsAsnFile, IsModelFile, IsProgramFile, IsStimuliFile, AreDifferent, HasOneSdlFile, AreModelFiles, IsSteps, GivesSteps};
 
 use itoa::Buffer;
 
@@ -156,14 +156,7 @@ fn are_model_files(files: &[String]) -> bool
     requires { AllByRecursion IsModelFile (texts files.now) }
     ensures { IsTrue result ↔ AreModelFiles (texts files.now) }
 {
-    files.len() <= MOST_FILES && are_different(files) && has_sdl_file(files) && can_be_taken(files)
-}
-
-/// Whether the files are such as can be read so far.
-fn can_be_taken(files: &[String]) -> bool
-    ensures { IsTrue result ↔ CanBeTaken (texts files.now) }
-{
-    files.len() == 1
+    files.len() <= MOST_FILES && are_different(files) && has_one_sdl_file(files)
 }
 
 /// Whether no word stands twice.
@@ -192,16 +185,31 @@ fn differs_from(word: &str, words: &[String]) -> bool
     true
 }
 
-/// Whether one of the files is one of SDL/PR.
-fn has_sdl_file(files: &[String]) -> bool
-    ensures { IsTrue result ↔ HasSdlFile (texts files.now) }
+/// Whether one of these files, each of which is a model file, is one of SDL/PR, and all others are of ASN.1.
+fn has_one_sdl_file(files: &[String]) -> bool
+    requires { AllByRecursion IsModelFile (texts files.now) }
+    ensures { IsTrue result ↔ HasOneSdlFile (texts files.now) }
 {
-    for file in files {
+    let mut rest = files;
+    while let Some((file, others)) = rest.split_first() {
         if is_sdl_file(file.as_str()) {
-            return true;
+            return are_asn_files(others);
         }
+        rest = others;
     }
     false
+}
+
+/// Whether all of the files are of ASN.1.
+fn are_asn_files(files: &[String]) -> bool
+    ensures { IsTrue result ↔ AllByRecursion IsAsnFile (texts files.now) }
+{
+    for file in files {
+        if !is_asn_file(file.as_str()) {
+            return false;
+        }
+    }
+    true
 }
 
 /// The number of `--steps N`.

@@ -1,7 +1,6 @@
 //! Laws of words, each as the contract of a function that does nothing.
 ghost use Rattle.std.specs.Prelude.{◌≡◌, ℕ, List, [], ◌∷◌, codes};
-ghost use Rattle.std.specs.List.{AllByRecursion};
-ghost use Rattle.og_words.specs.Words.{Command, Check, Compile, Run, Simulate, AsksFor, IsNoCommand, IsModelFile, HasSdlFile, AreDifferent};
+ghost use Rattle.og_words.specs.Words.{Command, Check, Compile, Run, Simulate, AsksFor, IsNoCommand, AreDifferent};
 
 /// Words ask for at most one command.
 pub fn one_command()
@@ -16,7 +15,7 @@ pub fn words_as_worked_out()
     ensures simulate { AsksFor (codes "sim" ∷ codes "m.pr" ∷ codes "s.stim" ∷ []) (Simulate (codes "m.pr" ∷ []) (codes "s.stim") 1000000) }
     ensures no_stem { IsNoCommand (codes "cc" ∷ codes ".pr" ∷ []) }
     ensures no_process { IsNoCommand (codes "cc" ∷ codes "d.asn" ∷ []) }
-    ensures in_any_order { AllByRecursion IsModelFile (codes "d.asn" ∷ codes "m.pr" ∷ codes "e.asn1" ∷ []) × HasSdlFile (codes "d.asn" ∷ codes "m.pr" ∷ codes "e.asn1" ∷ [])
-        × AreDifferent (codes "d.asn" ∷ codes "m.pr" ∷ codes "e.asn1" ∷ []) }
+    ensures in_any_order { AsksFor (codes "check" ∷ codes "d.asn" ∷ codes "m.pr" ∷ codes "e.asn1" ∷ []) (Check (codes "d.asn" ∷ codes "m.pr" ∷ codes "e.asn1" ∷ [])) }
+    ensures two_processes { IsNoCommand (codes "check" ∷ codes "m.pr" ∷ codes "n.pr" ∷ []) }
     ensures twice { AreDifferent (codes "m.pr" ∷ codes "d.asn" ∷ codes "m.pr" ∷ []) → ⊥ }
 {}

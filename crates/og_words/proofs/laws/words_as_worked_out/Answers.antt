@@ -24,3 +24,6 @@ returns-clause-in_any_order c = examples.in_any_order
 
 pub returns-clause-twice : goal.returns-clause-twice
 returns-clause-twice c = examples.twice
+
+pub returns-clause-two_processes : goal.returns-clause-two_processes
+returns-clause-two_processes c = examples.two_processes
