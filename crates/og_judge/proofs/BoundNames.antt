@@ -32,7 +32,7 @@ use Rattle.og_asn1.specs.declared.syntax.SizeTree.{SizeTree}
 use Rattle.og_asn1.specs.declared.syntax.SizeTree.TheVariants as size
 use Rattle.og_asn1.specs.Reading.{named}
 use Rattle.og_dataview.specs.Limits.{Front, RangeFront, is_kind, negative_bound, bound_by, bound_in, with_second, with_first, range_front, ended, range_in, closed, size_in, or_size, or_range, limits_in, limits_of, limits_of_size, is_size_word, is_mark}
-use Rattle.og_judge.proofs.TreeNames.{no_place, named_place, NameIn, TokenIn, AreIn, OptIn, RunIn}
+use Rattle.og_judge.proofs.TreeNames.{no_place, named_place, AreIn, OptIn, RunIn}
 
 abbrev pub BoundIn : (Place → Type 0) → Bound → Type 0
 BoundIn P (bound.Number is_negative digits) = Unit {0}

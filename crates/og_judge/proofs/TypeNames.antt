@@ -4,6 +4,7 @@ use Rattle.std.specs.Prelude.{◌==◌, ◌&&◌, is_none}
 use Rattle.std.specs.List.{AllByRecursion}
 use Rattle.og_base.specs.declared.Place.{Place}
 use Rattle.og_lexer.specs.declared.Spanned.{Spanned}
+use Rattle.og_names.specs.declared.Word.{Word}
 use Rattle.og_asn1.specs.declared.syntax.Name.{Name}
 use Rattle.og_asn1.specs.declared.syntax.ModuleTree.{ModuleTree}
 use Rattle.og_asn1.specs.declared.syntax.TaggingTree.{TaggingTree}
@@ -15,7 +16,8 @@ use Rattle.og_asn1.specs.declared.syntax.SymbolTree.TheVariants as symbol
 use Rattle.og_asn1.specs.declared.syntax.AssignmentTree.{AssignmentTree}
 use Rattle.og_asn1.specs.declared.syntax.AssignmentTree.TheVariants as assignment
 use Rattle.og_asn1.specs.declared.syntax.TypeTree.{TypeTree, size-TypeTree}
-use Rattle.og_asn1.specs.declared.syntax.BaseTree.{BaseTree, out-BaseTree, Integer, Boolean, Reference, Enumerated, Choice, Sequence, Set, SequenceOf, SetOf, Real, Null, OctetString, ObjectIdentifier, BitString, outs-Integer, outs-Boolean, outs-Reference, outs-Enumerated, outs-Choice, outs-Sequence, outs-Set, outs-SequenceOf, outs-SetOf, outs-Real, outs-Null, outs-OctetString, outs-ObjectIdentifier, outs-BitString}
+use Rattle.og_asn1.specs.declared.syntax.BaseTree.{BaseTree, out-BaseTree, Integer, Boolean, Reference, Enumerated, Choice, Sequence, Set, SequenceOf, SetOf, Real, Null, OctetString, ObjectIdentifier, BitString}
+use Rattle.og_asn1.specs.declared.syntax.BaseTree.TheViews.{outs-Integer, outs-Boolean, outs-Reference, outs-Enumerated, outs-Choice, outs-Sequence, outs-Set, outs-SequenceOf, outs-SetOf, outs-Real, outs-Null, outs-OctetString, outs-ObjectIdentifier, outs-BitString, outs-Part, outs-Extension}
 use Rattle.og_asn1.specs.declared.syntax.TagTree.{TagTree}
 use Rattle.og_asn1.specs.declared.syntax.TagMode.{TagMode}
 use Rattle.og_asn1.specs.declared.syntax.TagMode.TheVariants as mode
@@ -25,11 +27,12 @@ use Rattle.og_asn1.specs.declared.syntax.SizeTree.TheVariants as size
 use Rattle.og_asn1.specs.declared.syntax.EnumTree.{EnumTree}
 use Rattle.og_asn1.specs.declared.syntax.EnumTree.TheVariants as item
 use Rattle.og_asn1.specs.declared.syntax.SignedTree.{SignedTree}
-use Rattle.og_asn1.specs.declared.syntax.CompTree.{CompTree, out-CompTree, Part, Extension, outs-Part, outs-Extension}
+use Rattle.og_asn1.specs.declared.syntax.CompTree.{CompTree, out-CompTree, Part, Extension}
 use Rattle.og_asn1.specs.declared.syntax.PresenceTree.{PresenceTree}
 use Rattle.og_asn1.specs.declared.syntax.PresenceTree.TheVariants as presence
 use Rattle.og_asn1.specs.declared.syntax.ValueTree.{ValueTree}
-use Rattle.og_asn1.specs.declared.syntax.ValueNode.{ValueNode, outs-Number, outs-Text, outs-Truth, outs-Null as outs-NullValue, outs-Named, outs-Braces}
+use Rattle.og_asn1.specs.declared.syntax.ValueNode.{ValueNode}
+use Rattle.og_asn1.specs.declared.syntax.ValueNode.TheViews.{outs-Number, outs-Text, outs-Truth, outs-Null as outs-NullValue, outs-Named, outs-Braces}
 use Rattle.og_asn1.specs.declared.syntax.ValueNode as node_of
 use Rattle.og_asn1.specs.declared.syntax.FractionTree.{FractionTree}
 use Rattle.og_asn1.specs.declared.syntax.RunTree.{RunTree}
@@ -150,8 +153,8 @@ module _ (P : Place → Type 0) (start : P no_place) where
   fraction_made = record { by = λ rest all. (tt, ((maybe_in P start Any digits_at digits_made).by (behind (after rest)) (one (after rest) all)).1) }
 
   number_node : (is_negative : Bool) (digits : ℕ) (fraction : Option FractionTree) → ValueNodeIn P (node_of.Number is_negative digits fraction)
-  number_node is_negative digits None = rw outs-Number is_negative digits None (tt, tt)
-  number_node is_negative digits (Some fraction) = rw outs-Number is_negative digits (Some fraction) (tt, tt)
+  number_node is_negative digits None = rw (outs-Number is_negative digits None) (tt, tt)
+  number_node is_negative digits (Some fraction) = rw (outs-Number is_negative digits (Some fraction)) (tt, tt)
 
   number_made : (is_negative : Bool) (rest : Rest) → AreIn P rest.tokens → Made P (ValueNodeIn P) (number_value is_negative rest)
   unfolding number_value
@@ -160,8 +163,8 @@ module _ (P : Place → Type 0) (start : P no_place) where
       (number_node is_negative (number_in rest) f.0, ((maybe_in P start Any fraction_at fraction_made).by (behind rest) (one rest all)).1)
 
   named_node : (name : Name) (chosen : Option ValueTree) → P name.place → ValueNodeIn P (node_of.Named name chosen)
-  named_node name None p = rw outs-Named name None (p, p)
-  named_node name (Some v) p = rw outs-Named name (Some v) (tt, tt)
+  named_node name None p = rw (outs-Named name None) (p, p)
+  named_node name (Some v) p = rw (outs-Named name (Some v)) (tt, tt)
 
   chosen_made : (inside : Take ValueTree) → Makes P (ValueIn P) inside → Makes P Any (chosen_at inside)
   chosen_made inside makes = record { by = λ rest all. (tt, (makes.by (behind (after rest)) (one (after rest) all)).1) }
@@ -172,9 +175,21 @@ module _ (P : Place → Type 0) (start : P no_place) where
       let v = maybe (chosen_at inside) (behind rest) in
       (named_node (name_in rest) v.0 (name_at P start rest all), ((maybe_in P start Any (chosen_at inside) (chosen_made inside makes)).by (behind rest) (one rest all)).1)
 
+  braces_node : (run : RunTree) → ValueNodeIn P (node_of.Braces run)
+  braces_node run = rw (outs-Braces run) (tt, tt)
+
+  text_node : (word : Word) → ValueNodeIn P (node_of.Text word)
+  text_node word = rw (outs-Text word) (tt, tt)
+
+  truth_node : (truth : Bool) → ValueNodeIn P (node_of.Truth truth)
+  truth_node truth = rw (outs-Truth truth) (tt, tt)
+
+  null_value : ValueNodeIn P node_of.Null
+  null_value = rw outs-NullValue (tt, tt)
+
   braces_made : (rest : Rest) → AreIn P rest.tokens → Made P (ValueNodeIn P) (braces_value rest)
   unfolding braces_value
-  braces_made rest all = let r = (run_made P start).by rest all in ((rw outs-Braces (run_in rest).0 (tt, tt)), r.1)
+  braces_made rest all = let r = (run_made P start).by rest all in (braces_node (run_in rest).0, r.1)
 
   value_node_made : (inside : Take ValueTree) → Makes P (ValueIn P) inside → (rest : Rest) → AreIn P rest.tokens → Made P (ValueNodeIn P) (node_at inside rest)
   unfolding node_at
@@ -183,15 +198,15 @@ module _ (P : Place → Type 0) (start : P no_place) where
       let Q : ValueNode → Type 0 = ValueNodeIn P in
       if_in P start Q (choice_in rest == 0) _ _ (number_made true (behind s) (one s all))
       (if_in P start Q (choice_in rest == 1) _ _ (number_made false s all)
-      (if_in P start Q (choice_in rest == 2) _ _ ((rw outs-Text (word_in s) (tt, tt)), one s all)
-      (if_in P start Q (choice_in rest == 3) _ _ ((rw outs-Truth true (tt, tt)), one s all)
-      (if_in P start Q (choice_in rest == 4) _ _ ((rw outs-Truth false (tt, tt)), one s all)
-      (if_in P start Q (choice_in rest == 5) _ _ ((rw outs-NullValue (tt, tt)), one s all)
+      (if_in P start Q (choice_in rest == 2) _ _ (text_node (word_in s), one s all)
+      (if_in P start Q (choice_in rest == 3) _ _ (truth_node true, one s all)
+      (if_in P start Q (choice_in rest == 4) _ _ (truth_node false, one s all)
+      (if_in P start Q (choice_in rest == 5) _ _ (null_value, one s all)
       (if_in P start Q (choice_in rest == 6) _ _ (named_made inside makes s all) (braces_made s all)))))))
 
   value_made : (n : ℕ) → Makes P (ValueIn P) (value_within n)
   unfolding value_within
-  value_made zero = record { by = λ rest all. ((rw outs-NullValue (tt, tt)), all) }
+  value_made zero = record { by = λ rest all. (null_value, all) }
   value_made (suc n) = record { by = λ rest all. value_node_made (value_within n) (value_made n) rest all }
 
   value_at_made : Makes P (ValueIn P) value_at
@@ -230,7 +245,7 @@ module _ (P : Place → Type 0) (start : P no_place) where
   part_node name kind presence p q r depth n more all =
       let nodes = nodes_within depth n kind in
       let behind_it = all (n + length nodes) in
-      rw outs-Part name kind presence (each_both (NodeIn P) nodes (more (n + length nodes)).nodes (q depth n) behind_it.0, ((p, default_in presence r), behind_it.1))
+      rw (outs-Part name kind presence) (each_both (NodeIn P) nodes (more (n + length nodes)).nodes (q depth n) behind_it.0, ((p, default_in presence r), behind_it.1))
     where
       default_in : (presence : Option PresenceTree) → OptIn (PresenceIn P) presence → OptIn (NameIn P) (default_of presence)
       default_in None r = tt
@@ -244,7 +259,7 @@ module _ (P : Place → Type 0) (start : P no_place) where
       (part_node (name_in rest) (inside (behind rest)).0 (maybe presence_at (inside (behind rest)).1).0 (name_at P start rest all) kind.0 presence.0, presence.1)
 
   extension_node : (place : Place) → CompIn P (Extension place)
-  extension_node place depth n more all = rw outs-Extension place (all n)
+  extension_node place depth n more all = rw (outs-Extension place) (all n)
 
   comp_made : (inside : Take TypeTree) → Makes P (TypeIn P) inside → Makes P (CompIn P) (comp_at inside)
   unfolding comp_at
@@ -276,30 +291,33 @@ module _ (P : Place → Type 0) (start : P no_place) where
     by = λ rest all. if_in P start (SizeIn P) (choice_in rest == 0) _ _ ((bracket_made P start).by (after rest) all) ((bracket_made P start).by (behind (after rest)) (one (after rest) all));
   }
 
+  of_node : (size : Option SizeTree) (item : TypeTree) → TypeIn P item → OptIn (SizeIn P) size → OfIn P (roll-OfTree (record { size = size; item = item }))
+  of_node size item q r = rw (out-roll-OfTree (record { size = size; item = item })) (q, limits_of_size_in P size r)
+
   of_made : (inside : Take TypeTree) → Makes P (TypeIn P) inside → Makes P (OfIn P) (of_at inside)
   unfolding of_at
   of_made inside makes = record {
     by = λ rest all.
         let s = (maybe_in P start (SizeIn P) size_at size_made).by rest all in
         let kind = makes.by (behind (maybe size_at rest).1) (one (maybe size_at rest).1 s.1) in
-        ((rw out-roll-OfTree (record { size = (maybe size_at rest).0; item = (inside (behind (maybe size_at rest).1)).0 }) (kind.0, limits_of_size_in P (maybe size_at rest).0 s.0)), kind.1);
+        (of_node (maybe size_at rest).0 (inside (behind (maybe size_at rest).1)).0 kind.0 s.0, kind.1);
   }
 
   sequence_node : (comps : List CompTree) → AllByRecursion (CompIn P) comps → BaseIn P (Sequence comps)
   sequence_node comps all depth n =
       let p = parts_in depth comps all n in
-      rw outs-Sequence comps (each_both (NodeIn P) (parts_of (nodes_within depth) comps n).nodes _ p.0 (p.1, tt))
+      rw (outs-Sequence comps) (each_both (NodeIn P) (parts_of (nodes_within depth) comps n).nodes _ p.0 (p.1, tt))
 
   choice_node : (comps : List CompTree) → AllByRecursion (CompIn P) comps → BaseIn P (Choice comps)
   choice_node comps all depth n =
       let p = parts_in depth comps all n in
-      rw outs-Choice comps (each_both (NodeIn P) (parts_of (nodes_within depth) comps n).nodes _ p.0 (p.1, tt))
+      rw (outs-Choice comps) (each_both (NodeIn P) (parts_of (nodes_within depth) comps n).nodes _ p.0 (p.1, tt))
 
   sequence_of_node : (of : OfTree) → OfIn P of → BaseIn P (SequenceOf of)
-  sequence_of_node of o depth n = rw outs-SequenceOf of (each_both (NodeIn P) (nodes_within depth n (out-OfTree of).item) _ (o.0 depth n) (o.1, tt))
+  sequence_of_node of o depth n = rw (outs-SequenceOf of) (each_both (NodeIn P) (nodes_within depth n (out-OfTree of).item) _ (o.0 depth n) (o.1, tt))
 
   set_of_node : (of : OfTree) → OfIn P of → BaseIn P (SetOf of)
-  set_of_node of o depth n = rw outs-SetOf of (each_both (NodeIn P) (nodes_within depth n (out-OfTree of).item) _ (o.0 depth n) (o.1, tt))
+  set_of_node of o depth n = rw (outs-SetOf of) (each_both (NodeIn P) (nodes_within depth n (out-OfTree of).item) _ (o.0 depth n) (o.1, tt))
 
   sequence_made : (inside : Take TypeTree) → Makes P (TypeIn P) inside → (rest : Rest) → AreIn P rest.tokens → Made P (BaseIn P) (sequence_at inside rest)
   unfolding sequence_at
@@ -311,7 +329,7 @@ module _ (P : Place → Type 0) (start : P no_place) where
       (sequence_of_node (of_at inside (after rest)).0 of.0, of.1)
 
   set_node : (run : RunTree) → BaseIn P (Set run)
-  set_node run depth n = rw outs-Set run (tt, tt)
+  set_node run depth n = rw (outs-Set run) (tt, tt)
 
   set_made : (inside : Take TypeTree) → Makes P (TypeIn P) inside → (rest : Rest) → AreIn P rest.tokens → Made P (BaseIn P) (set_at inside rest)
   unfolding set_at
@@ -337,11 +355,14 @@ module _ (P : Place → Type 0) (start : P no_place) where
   items_in [] all = tt
   items_in (t ∷ ts) all = each_both (EnumeratorIn P) (enumerator_of t) (enumerators_of ts) all.0 (items_in ts all.1)
 
+  enumerated_node : (items : List EnumTree) → AllByRecursion (EnumIn P) items → BaseIn P (Enumerated items)
+  enumerated_node items all depth n = rw (outs-Enumerated items) (items_in items all, tt)
+
   enumerated_made : (rest : Rest) → AreIn P rest.tokens → Made P (BaseIn P) (enumerated_at rest)
   unfolding enumerated_at
   enumerated_made rest all =
       let items = (listed_in P start (EnumIn P) enum_at enum_made).by (behind rest) (one rest all) in
-      ((λ depth n. rw outs-Enumerated (listed enum_at (behind rest)).0 (items_in (listed enum_at (behind rest)).0 items.0, tt)), one (listed enum_at (behind rest)).1 items.1)
+      (enumerated_node (listed enum_at (behind rest)).0 items.0, one (listed enum_at (behind rest)).1 items.1)
 
   choice_made : (inside : Take TypeTree) → Makes P (TypeIn P) inside → (rest : Rest) → AreIn P rest.tokens → Made P (BaseIn P) (choice_at inside rest)
   unfolding choice_at
@@ -350,19 +371,19 @@ module _ (P : Place → Type 0) (start : P no_place) where
       (choice_node (listed (comp_at inside) (behind rest)).0 comps.0, one (listed (comp_at inside) (behind rest)).1 comps.1)
 
   integer_node : (a b : Option RunTree) → OptIn (RunIn P) b → BaseIn P (Integer a b)
-  integer_node a b q depth n = rw outs-Integer a b (limits_of_in P b q, tt)
+  integer_node a b q depth n = rw (outs-Integer a b) (limits_of_in P b q, tt)
 
   reference_node : (name : Name) → P name.place → (a : Option RunTree) → OptIn (RunIn P) a → BaseIn P (Reference name a)
-  reference_node name p a q depth n = rw outs-Reference name a ((p, limits_of_in P a q), tt)
+  reference_node name p a q depth n = rw (outs-Reference name a) ((p, limits_of_in P a q), tt)
 
   real_node : (a : Option RunTree) → OptIn (RunIn P) a → BaseIn P (Real a)
-  real_node a q depth n = rw outs-Real a (limits_of_in P a q, tt)
+  real_node a q depth n = rw (outs-Real a) (limits_of_in P a q, tt)
 
   octets_node : (a : Option RunTree) → OptIn (RunIn P) a → BaseIn P (OctetString a)
-  octets_node a q depth n = rw outs-OctetString a (limits_of_in P a q, tt)
+  octets_node a q depth n = rw (outs-OctetString a) (limits_of_in P a q, tt)
 
   bits_node : (a b : Option RunTree) → OptIn (RunIn P) b → BaseIn P (BitString a b)
-  bits_node a b q depth n = rw outs-BitString a b (limits_of_in P b q, tt)
+  bits_node a b q depth n = rw (outs-BitString a b) (limits_of_in P b q, tt)
 
   boolean_node : BaseIn P Boolean
   boolean_node depth n = rw outs-Boolean (tt, tt)

@@ -24,15 +24,15 @@ use Rattle.std.proofs.lemmas.List.{length-map}
 use Rattle.og_tool.specs.Answers.{limit, IsNamedAs, HasRead, AreRead, RoseAt, FailedAmong, IsLargeAmong, accepted_line}
 use Rattle.og_words.specs.Asked.{texts}
 use Rattle.og_judge.specs.declared.ModelFile.{ModelFile}
-use Rattle.og_judge.specs.Judging.{SourceFile, source, sources, HasOneProcess, AreShort, most_files, IsFirstViolation, HaveModel}
+use Rattle.og_judge.specs.Judging.{SourceFile, source, sources, AreAsn, HasOneProcess, AreShort, most_files, IsFirstViolation, HaveModel}
 use Rattle.og_judge.specs.Answers.{IsJudged, Refuses}
 use Rattle.og_lexer.specs.declared.Language.{Language}
 use Rattle.og_lexer.specs.declared.Language.TheVariants.{Sdl, Asn}
-use Rattle.og_words.specs.Words.{IsSdlFile, IsAsnFile, AreModelFiles}
-use Rattle.og_words.proofs.OneCommand.{last_byte, ends_in}
+use Rattle.og_words.specs.Words.{IsAsnFile, HasOneSdlFile, AreModelFiles}
+use Rattle.og_words.proofs.OneCommand.{two_languages}
 use Rattle.og_words.proofs.CommandForms.{texts_more}
 use Rattle.og_tool.proofs.RunningParts.{rose_before}
-use Rattle.std.specs.List.{flat_map}
+use Rattle.std.specs.List.{flat_map, AllByRecursion}
 
 -- ---- one more file
 
@@ -101,17 +101,6 @@ all_short told [] (f ∷ files) read = absurd read
 all_short told (n ∷ names) [] read = absurd read
 all_short told (n ∷ names) (f ∷ files) read = (let small = read.1.small in omega (arith, small), all_short told names files read.2)
 
--- a name that ends in `r` is no name of a file of ASN.1
-two_languages : (name : List ℕ) → IsSdlFile name → IsAsnFile name → ⊥
-two_languages name sdl (inl asn) =
-    let e : last_byte 0 name ≡ 114 = ends_in name 46 (112 ∷ 114 ∷ []) sdl in
-    let d : last_byte 0 name ≡ 110 = ends_in name 46 (97 ∷ 115 ∷ 110 ∷ []) asn in
-    omega (arith, e, d)
-two_languages name sdl (inr asn) =
-    let e : last_byte 0 name ≡ 114 = ends_in name 46 (112 ∷ 114 ∷ []) sdl in
-    let d : last_byte 0 name ≡ 49 = ends_in name 46 (97 ∷ 115 ∷ 110 ∷ 49 ∷ []) asn in
-    omega (arith, e, d)
-
 -- a name tells the language
 pub one_language : (name : List ℕ) (a b : Language) → IsNamedAs a name → IsNamedAs b name → a ≡ b
 one_language name Sdl Sdl x y = refl
@@ -119,13 +108,18 @@ one_language name Sdl Asn x y = absurd (two_languages name x y)
 one_language name Asn Sdl x y = absurd (two_languages name y x)
 one_language name Asn Asn x y = refl
 
--- a single file of SDL/PR
-pub has_one : (told : Option Files) (names : List (List ℕ)) (files : List SourceFile) → AreRead told names files → AreModelFiles names → HasOneProcess files
-has_one told [] files read are = let one = are.taken in absurd (omega (arith, one))
-has_one told (n ∷ []) [] read are = absurd read
-has_one told (n ∷ []) (f ∷ []) read are = elim are.process [ inl sdl ↦ inl (one_language n f.language Sdl read.0 sdl, tt) | inr none ↦ absurd none ]
-has_one told (n ∷ []) (f ∷ g ∷ files) read are = absurd read.2
-has_one told (n ∷ m ∷ names) files read are = let one = are.taken in absurd (omega (arith, one))
+all_asn : (told : Option Files) (names : List (List ℕ)) (files : List SourceFile) → AreRead told names files → AllByRecursion IsAsnFile names → AreAsn files
+all_asn told [] [] read all = tt
+all_asn told [] (f ∷ files) read all = absurd read
+all_asn told (n ∷ names) [] read all = absurd read
+all_asn told (n ∷ names) (f ∷ files) read all = (one_language n f.language Asn read.0 all.0, all_asn told names files read.2 all.1)
+
+-- the one file of SDL/PR
+pub has_one : (told : Option Files) (names : List (List ℕ)) (files : List SourceFile) → AreRead told names files → HasOneSdlFile names → HasOneProcess files
+has_one told [] files read one = absurd one
+has_one told (n ∷ names) [] read one = absurd read
+has_one told (n ∷ names) (f ∷ files) read (inl sdl) = inl (one_language n f.language Sdl read.0 sdl.0, all_asn told names files read.2 sdl.1)
+has_one told (n ∷ names) (f ∷ files) read (inr asn) = inr (one_language n f.language Asn read.0 asn.0, has_one told names files read.2 asn.1)
 
 pub are_few : (told : Option Files) (words : List (String Global)) (files : List ModelFile) → AreRead told (texts words) (sources files) → AreModelFiles (texts words) → length files ≤ most_files
 are_few told words files read are =

@@ -21,7 +21,7 @@ judge-requires-clause-short g c =
 pub judge-requires-clause-one : goal.judge-requires-clause-one
 judge-requires-clause-one g c =
     let P : List ModelFile → Type 0 = λ fs. AreRead (g.S.Store.holds c.args.store.now) (texts c.args.files.now) (sources fs) in
-    has_one (g.S.Store.holds c.args.store.now) (texts c.args.files.now) (sources c.as_slice.result.now) (subst P (sym c.as_slice.ensures.value) c.in_ok-contents.ensures.read) c.requires
+    has_one (g.S.Store.holds c.args.store.now) (texts c.args.files.now) (sources c.as_slice.result.now) (subst P (sym c.as_slice.ensures.value) c.in_ok-contents.ensures.read) c.requires.process
 
 pub returns-in-Ok-clause-read : goal.returns-in-Ok-clause-read
 returns-in-Ok-clause-read g c =
