@@ -2,10 +2,3 @@ pub mod Kinds
 pub mod Reading
 pub mod Trees
 pub mod Grammar
-pub mod Limits
-pub mod Flattening
-pub mod Scope
-pub mod Following
-pub mod Violations
-pub mod View
-pub mod ViewExamples

@@ -1,7 +1,6 @@
-//! Copies of names and of bounds. Each copy equals what it copies.
+//! Copies of names. Each copy equals what it copies.
 ghost use Rattle.std.specs.Prelude.{◌≡◌, IfOk};
 
-use crate::flat::Bound;
 use crate::syntax::Name;
 use og_names::NoMemory;
 use std::alloc::Global;
@@ -14,26 +13,6 @@ impl Name {
         Ok(Name {
             place: self.place,
             word: self.word.copy(alloc)?,
-        })
-    }
-}
-
-impl Bound {
-    /// The same bound once more.
-    pub fn copy(&self, alloc: Global) -> Result<Bound, NoMemory>
-        ensures { IfOk result (λ bound. bound ≡ self.now) }
-    {
-        Ok(match self {
-            Bound::Number {
-                is_negative,
-                digits,
-            } => Bound::Number {
-                is_negative: *is_negative,
-                digits: *digits,
-            },
-            Bound::Named { name } => Bound::Named {
-                name: name.copy(alloc)?,
-            },
         })
     }
 }

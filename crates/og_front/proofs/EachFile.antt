@@ -48,34 +48,34 @@ tokens_some file bytes at (p ∷ ps) =
 
 -- ---- by the tree and its rules
 
-by_rules : (bytes : List ℕ) (system : SystemText) → IsTextOf system bytes → (found : Option Violation) → first_of_rules system ≡ found → IsAccepted bytes ⊎ IsRefused bytes
-by_rules bytes system text None is = inl (record { system = system; accepts = record { text = text; keeps = is } })
-by_rules bytes system text (Some v) is = inr (v, inr (inr (record { system = system; text = text; first = is })))
+by_rules : (file : ℕ) (bytes : List ℕ) (system : SystemText) → IsTextOf file system bytes → (found : Option Violation) → first_of_rules system ≡ found → IsAccepted file bytes ⊎ IsRefused file bytes
+by_rules file bytes system text None is = inl (record { system = system; accepts = record { text = text; keeps = is } })
+by_rules file bytes system text (Some v) is = inr (v, inr (inr (record { system = system; text = text; first = is })))
 
-no_sentence : (bytes : List ℕ) (tokens : List Spanned) (comments : List Comment) → Lexes 0 bytes tokens comments → ((choices : List ℕ) → Derived GRAMMAR LAST (kinds_of tokens) choices → ⊥) → HasFirst tokens → IsRefused bytes
-no_sentence bytes tokens comments lexes none head = (
+no_sentence : (file : ℕ) (bytes : List ℕ) (tokens : List Spanned) (comments : List Comment) → Lexes file bytes tokens comments → ((choices : List ℕ) → Derived GRAMMAR LAST (kinds_of tokens) choices → ⊥) → HasFirst tokens → IsRefused file bytes
+no_sentence file bytes tokens comments lexes none head = (
   record { rule = F1; place = head.first.place },
   inr (inl (record {
     first = head.first;
     more = head.more;
     comments = comments;
-    lexes = subst (λ (ts : List Spanned). Lexes 0 bytes ts comments) head.is lexes;
+    lexes = subst (λ (ts : List Spanned). Lexes file bytes ts comments) head.is lexes;
     unspelt = λ system spells. none spells.choices (subst (λ (ts : List Spanned). Derived GRAMMAR LAST (kinds_of ts) spells.choices) (sym head.is) spells.derived);
     is = refl;
   })),
 )
 
-by_choices : (bytes : List ℕ) (tokens : List Spanned) (comments : List Comment) → Lexes 0 bytes tokens comments → IsAnswered (kinds_of tokens) → IsAccepted bytes ⊎ IsRefused bytes
-by_choices bytes tokens comments lexes (inl found) =
+by_choices : (file : ℕ) (bytes : List ℕ) (tokens : List Spanned) (comments : List Comment) → Lexes file bytes tokens comments → IsAnswered (kinds_of tokens) → IsAccepted file bytes ⊎ IsRefused file bytes
+by_choices file bytes tokens comments lexes (inl found) =
     let spells : Spells (tree_of found.0 tokens) tokens = record { choices = found.0; derived = found.1; tree = refl } in
-    by_rules bytes (tree_of found.0 tokens) (record { tokens = tokens; comments = comments; lexes = lexes; spells = spells }) (first_of_rules (tree_of found.0 tokens)) refl
-by_choices bytes tokens comments lexes (inr none) =
-    inr (no_sentence bytes tokens comments lexes none (subst HasFirst (sym lexes.tokens_are) (tokens_some 0 bytes 0 lexes.pieces)))
+    by_rules file bytes (tree_of found.0 tokens) (record { tokens = tokens; comments = comments; lexes = lexes; spells = spells }) (first_of_rules (tree_of found.0 tokens)) refl
+by_choices file bytes tokens comments lexes (inr none) =
+    inr (no_sentence file bytes tokens comments lexes none (subst HasFirst (sym lexes.tokens_are) (tokens_some file bytes 0 lexes.pieces)))
 
-by_text : EachSentence → (bytes : List ℕ) → IsText 0 bytes ⊎ IsBroken 0 bytes → IsAccepted bytes ⊎ IsRefused bytes
-by_text sentences bytes (inl text) = by_choices bytes text.0 text.1.0 text.1.1 (sentences GRAMMAR PARTS LAST refl (kinds_of text.0))
-by_text sentences bytes (inr broken) = inr (broken.0, inl broken.1)
+by_text : EachSentence → (file : ℕ) (bytes : List ℕ) → IsText file bytes ⊎ IsBroken file bytes → IsAccepted file bytes ⊎ IsRefused file bytes
+by_text sentences file bytes (inl text) = by_choices file bytes text.0 text.1.0 text.1.1 (sentences GRAMMAR PARTS LAST refl (kinds_of text.0))
+by_text sentences file bytes (inr broken) = inr (broken.0, inl broken.1)
 
 -- any bytes are an accepted file or have a first violation
-pub accepted_or_refused : EachText → EachSentence → (bytes : List ℕ) → IsAccepted bytes ⊎ IsRefused bytes
-accepted_or_refused texts sentences bytes = by_text sentences bytes (texts 0 bytes)
+pub accepted_or_refused : EachText → EachSentence → (file : ℕ) (bytes : List ℕ) → IsAccepted file bytes ⊎ IsRefused file bytes
+accepted_or_refused texts sentences file bytes = by_text sentences file bytes (texts file bytes)

@@ -26,38 +26,38 @@ Apart = (file : ℕ) (bytes : List ℕ) (tokens : List Spanned) (comments : List
 same_tree : (a b : SystemText) (tokens others : List Spanned) → tokens ≡ others → Spells a tokens → Spells b others → a ≡ b
 same_tree a b tokens others same one other = one_tree a b others (subst (λ (ts : List Spanned). Spells a ts) same one) other
 
-pub same_system : OneText → (bytes : List ℕ) (a b : SystemText) → IsTextOf a bytes → IsTextOf b bytes → a ≡ b
-same_system texts bytes a b one other =
-    same_tree a b one.tokens other.tokens (texts 0 bytes one.tokens other.tokens one.comments other.comments one.lexes other.lexes).0 one.spells other.spells
+pub same_system : OneText → (file : ℕ) (bytes : List ℕ) (a b : SystemText) → IsTextOf file a bytes → IsTextOf file b bytes → a ≡ b
+same_system texts file bytes a b one other =
+    same_tree a b one.tokens other.tokens (texts file bytes one.tokens other.tokens one.comments other.comments one.lexes other.lexes).0 one.spells other.spells
 
-unspelt : OneText → (bytes : List ℕ) (v : Violation) (system : SystemText) → BreaksGrammar bytes v → IsTextOf system bytes → ⊥
-unspelt texts bytes v system breaks text =
+pub unspelt : OneText → (file : ℕ) (bytes : List ℕ) (v : Violation) (system : SystemText) → BreaksGrammar file bytes v → IsTextOf file system bytes → ⊥
+unspelt texts file bytes v system breaks text =
     let P : List Spanned → Type 0 = λ tokens. Spells system tokens in
-    breaks.unspelt system (subst P (texts 0 bytes text.tokens (breaks.first ∷ breaks.more) text.comments breaks.comments text.lexes breaks.lexes).0 text.spells)
+    breaks.unspelt system (subst P (texts file bytes text.tokens (breaks.first ∷ breaks.more) text.comments breaks.comments text.lexes breaks.lexes).0 text.spells)
 
 first_token : (a b : Spanned) (as' bs : List Spanned) → a ∷ as' ≡ b ∷ bs → a ≡ b
 first_token a b as' bs e = cc
 
-pub never_both : OneText → Apart → (bytes : List ℕ) (v : Violation) → IsAccepted bytes → FirstViolation bytes v → ⊥
-never_both texts apart bytes v accepted (inl lexical) =
-    let text = accepted.accepts.text in apart 0 bytes text.tokens text.comments v text.lexes lexical
-never_both texts apart bytes v accepted (inr (inl grammar)) = unspelt texts bytes v accepted.system grammar accepted.accepts.text
-never_both texts apart bytes v accepted (inr (inr rule)) =
-    let same = same_system texts bytes accepted.system rule.system accepted.accepts.text rule.text in
+pub never_both : OneText → Apart → (file : ℕ) (bytes : List ℕ) (v : Violation) → IsAccepted file bytes → FirstViolation file bytes v → ⊥
+never_both texts apart file bytes v accepted (inl lexical) =
+    let text = accepted.accepts.text in apart file bytes text.tokens text.comments v text.lexes lexical
+never_both texts apart file bytes v accepted (inr (inl grammar)) = unspelt texts file bytes v accepted.system grammar accepted.accepts.text
+never_both texts apart file bytes v accepted (inr (inr rule)) =
+    let same = same_system texts file bytes accepted.system rule.system accepted.accepts.text rule.text in
     let e : None ≡ Some v = sym accepted.accepts.keeps ∙ ap first_of_rules same ∙ rule.first in
     cc
 
-pub one_first : OneText → OneLexical → Apart → (bytes : List ℕ) (v w : Violation) → FirstViolation bytes v → FirstViolation bytes w → v ≡ w
-one_first texts lexicals apart bytes v w (inl a) (inl b) = lexicals 0 bytes v w a b
-one_first texts lexicals apart bytes v w (inl a) (inr (inl b)) = absurd (apart 0 bytes (b.first ∷ b.more) b.comments v b.lexes a)
-one_first texts lexicals apart bytes v w (inl a) (inr (inr b)) = absurd (apart 0 bytes b.text.tokens b.text.comments v b.text.lexes a)
-one_first texts lexicals apart bytes v w (inr (inl a)) (inl b) = absurd (apart 0 bytes (a.first ∷ a.more) a.comments w a.lexes b)
-one_first texts lexicals apart bytes v w (inr (inl a)) (inr (inl b)) =
-    let same = first_token a.first b.first a.more b.more (texts 0 bytes (a.first ∷ a.more) (b.first ∷ b.more) a.comments b.comments a.lexes b.lexes).0 in
+pub one_first : OneText → OneLexical → Apart → (file : ℕ) (bytes : List ℕ) (v w : Violation) → FirstViolation file bytes v → FirstViolation file bytes w → v ≡ w
+one_first texts lexicals apart file bytes v w (inl a) (inl b) = lexicals file bytes v w a b
+one_first texts lexicals apart file bytes v w (inl a) (inr (inl b)) = absurd (apart file bytes (b.first ∷ b.more) b.comments v b.lexes a)
+one_first texts lexicals apart file bytes v w (inl a) (inr (inr b)) = absurd (apart file bytes b.text.tokens b.text.comments v b.text.lexes a)
+one_first texts lexicals apart file bytes v w (inr (inl a)) (inl b) = absurd (apart file bytes (a.first ∷ a.more) a.comments w a.lexes b)
+one_first texts lexicals apart file bytes v w (inr (inl a)) (inr (inl b)) =
+    let same = first_token a.first b.first a.more b.more (texts file bytes (a.first ∷ a.more) (b.first ∷ b.more) a.comments b.comments a.lexes b.lexes).0 in
     a.is ∙ ap (λ (t : Spanned). record { rule = F1; place = t.place }) same ∙ sym b.is
-one_first texts lexicals apart bytes v w (inr (inl a)) (inr (inr b)) = absurd (unspelt texts bytes v b.system a b.text)
-one_first texts lexicals apart bytes v w (inr (inr a)) (inl b) = absurd (apart 0 bytes a.text.tokens a.text.comments w a.text.lexes b)
-one_first texts lexicals apart bytes v w (inr (inr a)) (inr (inl b)) = absurd (unspelt texts bytes w a.system b a.text)
-one_first texts lexicals apart bytes v w (inr (inr a)) (inr (inr b)) =
-    let same = same_system texts bytes a.system b.system a.text b.text in
+one_first texts lexicals apart file bytes v w (inr (inl a)) (inr (inr b)) = absurd (unspelt texts file bytes v b.system a b.text)
+one_first texts lexicals apart file bytes v w (inr (inr a)) (inl b) = absurd (apart file bytes a.text.tokens a.text.comments w a.text.lexes b)
+one_first texts lexicals apart file bytes v w (inr (inr a)) (inr (inl b)) = absurd (unspelt texts file bytes w a.system b a.text)
+one_first texts lexicals apart file bytes v w (inr (inr a)) (inr (inr b)) =
+    let same = same_system texts file bytes a.system b.system a.text b.text in
     same_some v w (sym a.first ∙ ap first_of_rules same ∙ b.first)

@@ -1,5 +1,5 @@
 -- The tree of a text has names and places such as stand in a text.
-use Rattle.std.proofs.Common.{◌≡◌, ℕ, ◌+◌, ◌≤◌, Bool, true, false, ◌&&◌, ◌||◌, nat_le, nat_lt, if◌then◌else◌, List, [], ◌∷◌, take, refl, sym, ap, subst, ◌∙◌, arith, IsTrue}
+use Rattle.std.proofs.Common.{◌≡◌, ℕ, ◌+◌, ◌≤◌, Bool, true, false, ◌&&◌, ◌||◌, nat_le, nat_lt, ◌<◌, if◌then◌else◌, List, [], ◌∷◌, take, refl, sym, ap, subst, ◌∙◌, arith, IsTrue}
 use Rattle.std.specs.Prelude.{slice_range, ◌==◌}
 use Rattle.std.specs.List.{AllByRecursion, list_all}
 use Rattle.std.specs.Char.{is_ascii_alphabetic}
@@ -107,9 +107,9 @@ word_is_name (b ∷ bs) h = both (is_ascii_alphabetic b) (list_all is_name_byte 
 
 -- ---- places
 
--- a place of the first file, counted from 1
+-- a place of one of the files, counted from 1
 record IsIn (p : Place) : Type 0 where
-  pub file : p.file ≡ 0
+  pub file : p.file < 64
   pub line : 1 ≤ p.line
   pub column : 1 ≤ p.column
 
@@ -127,11 +127,14 @@ after_in p (b ∷ bs) h = after_in (next_place p b) bs (next_in p b h)
 le_test : (m n : ℕ) → m ≤ n → nat_le m n ≡ true
 le_test m n h = grind (arith, nat_tests)
 
-in_is_place : (p : Place) → IsIn p → IsTrue (is_place p)
-in_is_place p h = both (nat_lt p.file 64) (nat_le 1 p.line && nat_le 1 p.column) (ap (λ n. nat_lt n 64) h.file) (both (nat_le 1 p.line) (nat_le 1 p.column) (le_test 1 p.line h.line) (le_test 1 p.column h.column))
+lt_test : (m n : ℕ) → m < n → nat_lt m n ≡ true
+lt_test m n h = grind (arith, nat_tests)
 
-place_is : (bytes : List ℕ) (at : ℕ) → IsTrue (is_place (place_at 0 bytes at))
-place_is bytes at = in_is_place (place_at 0 bytes at) (after_in (first_place 0) (take at bytes) (record { file = refl; line = omega arith; column = omega arith }))
+in_is_place : (p : Place) → IsIn p → IsTrue (is_place p)
+in_is_place p h = both (nat_lt p.file 64) (nat_le 1 p.line && nat_le 1 p.column) (lt_test p.file 64 h.file) (both (nat_le 1 p.line) (nat_le 1 p.column) (le_test 1 p.line h.line) (le_test 1 p.column h.column))
+
+place_is : (file : ℕ) (bytes : List ℕ) (at : ℕ) → file < 64 → IsTrue (is_place (place_at file bytes at))
+place_is file bytes at few = in_is_place (place_at file bytes at) (after_in (first_place file) (take at bytes) (record { file = few; line = omega arith; column = omega arith }))
 
 -- ---- tokens
 
@@ -140,28 +143,28 @@ written_word t word text e written =
     let w = subst (λ k. IsWritten k text) e written in
     subst (λ bytes. IsTrue (is_name bytes)) w.0 (word_is_name text w.1)
 
-placed_is : (bytes : List ℕ) (p : Place) (q : Place) (at : ℕ) → q ≡ place_at 0 bytes at → q ≡ p → IsTrue (is_place p)
-placed_is bytes p q at e same = subst (λ r. IsTrue (is_place r)) (sym e ∙ same) (place_is bytes at)
+placed_is : (file : ℕ) (bytes : List ℕ) (p : Place) (q : Place) (at : ℕ) → file < 64 → q ≡ place_at file bytes at → q ≡ p → IsTrue (is_place p)
+placed_is file bytes p q at few e same = subst (λ r. IsTrue (is_place r)) (sym e ∙ same) (place_is file bytes at few)
 
-begun_written : (bytes : List ℕ) (at : ℕ) (forms : List Form) (tokens rest : List Spanned) → Begins forms tokens rest → AreInPlace 0 bytes at tokens → AllByRecursion IsWrittenForm forms
-begun_written bytes at [] tokens rest h placed = tt
-begun_written bytes at (Reserved word ∷ forms) tokens rest h placed =
-    let p = subst (λ ts. AreInPlace 0 bytes at ts) h.2 placed in (tt, begun_written bytes h.0.end forms h.1 rest h.4 p.2)
-begun_written bytes at (ReservedAt word place ∷ forms) tokens rest h placed =
-    let p = subst (λ ts. AreInPlace 0 bytes at ts) h.2 placed in (placed_is bytes place h.0.place h.0.start p.1.placed h.3.1, begun_written bytes h.0.end forms h.1 rest h.4 p.2)
-begun_written bytes at (Sign mark ∷ forms) tokens rest h placed =
-    let p = subst (λ ts. AreInPlace 0 bytes at ts) h.2 placed in (tt, begun_written bytes h.0.end forms h.1 rest h.4 p.2)
-begun_written bytes at (Named name ∷ forms) tokens rest h placed =
-    let p = subst (λ ts. AreInPlace 0 bytes at ts) h.2 placed in (
+begun_written : (file : ℕ) (bytes : List ℕ) (at : ℕ) → file < 64 → (forms : List Form) (tokens rest : List Spanned) → Begins forms tokens rest → AreInPlace file bytes at tokens → AllByRecursion IsWrittenForm forms
+begun_written file bytes at few [] tokens rest h placed = tt
+begun_written file bytes at few (Reserved word ∷ forms) tokens rest h placed =
+    let p = subst (λ ts. AreInPlace file bytes at ts) h.2 placed in (tt, begun_written file bytes h.0.end few forms h.1 rest h.4 p.2)
+begun_written file bytes at few (ReservedAt word place ∷ forms) tokens rest h placed =
+    let p = subst (λ ts. AreInPlace file bytes at ts) h.2 placed in (placed_is file bytes place h.0.place h.0.start few p.1.placed h.3.1, begun_written file bytes h.0.end few forms h.1 rest h.4 p.2)
+begun_written file bytes at few (Sign mark ∷ forms) tokens rest h placed =
+    let p = subst (λ ts. AreInPlace file bytes at ts) h.2 placed in (tt, begun_written file bytes h.0.end few forms h.1 rest h.4 p.2)
+begun_written file bytes at few (Named name ∷ forms) tokens rest h placed =
+    let p = subst (λ ts. AreInPlace file bytes at ts) h.2 placed in (
       record {
         letters = written_word h.0.token name.word (slice_range bytes h.0.start h.0.end) h.3.0 p.1.written;
-        place = placed_is bytes name.place h.0.place h.0.start p.1.placed h.3.1;
+        place = placed_is file bytes name.place h.0.place h.0.start few p.1.placed h.3.1;
       },
-      begun_written bytes h.0.end forms h.1 rest h.4 p.2,
+      begun_written file bytes h.0.end few forms h.1 rest h.4 p.2,
     )
-begun_written bytes at (Last ∷ forms) tokens rest h placed =
-    let p = subst (λ ts. AreInPlace 0 bytes at ts) h.2 placed in (tt, begun_written bytes h.0.end forms h.1 rest h.4 p.2)
+begun_written file bytes at few (Last ∷ forms) tokens rest h placed =
+    let p = subst (λ ts. AreInPlace file bytes at ts) h.2 placed in (tt, begun_written file bytes h.0.end few forms h.1 rest h.4 p.2)
 
 -- the tree of tokens that stand in their places is such as a text has
-pub written_spelt : (system : SystemText) (tokens : List Spanned) (bytes : List ℕ) (at : ℕ) → Spells system tokens → AreInPlace 0 bytes at tokens → IsWrittenTree system
-written_spelt system tokens bytes at spells placed = record { each = begun_written bytes at (system_forms system) tokens [] (spelt_forms system tokens spells) placed }
+pub written_spelt : (system : SystemText) (tokens : List Spanned) (file : ℕ) (bytes : List ℕ) (at : ℕ) → file < 64 → Spells system tokens → AreInPlace file bytes at tokens → IsWrittenTree system
+written_spelt system tokens file bytes at few spells placed = record { each = begun_written file bytes at few (system_forms system) tokens [] (spelt_forms system tokens spells) placed }

@@ -11,44 +11,44 @@ use Rattle.og_front.specs.declared.syntax.SystemText.{SystemText}
 use Rattle.og_front.specs.Grammar.{Spells}
 use Rattle.og_front.specs.Rules.{first_of_rules}
 
--- the bytes are a text of this tree
-pub record IsTextOf (system : SystemText) (bytes : List ℕ) : Type 0 where
+-- the bytes of the file with this number are a text of this tree
+pub record IsTextOf (file : ℕ) (system : SystemText) (bytes : List ℕ) : Type 0 where
   pub tokens : List Spanned
   pub comments : List Comment
-  pub lexes : Lexes 0 bytes tokens comments
+  pub lexes : Lexes file bytes tokens comments
   pub spells : Spells system tokens
 
 -- the bytes are a text of a tree that violates no rule
-pub record Accepts (bytes : List ℕ) (system : SystemText) : Type 0 where
-  pub text : IsTextOf system bytes
+pub record Accepts (file : ℕ) (bytes : List ℕ) (system : SystemText) : Type 0 where
+  pub text : IsTextOf file system bytes
   pub keeps : first_of_rules system ≡ None
 
-pub record IsAccepted (bytes : List ℕ) : Type 0 where
+pub record IsAccepted (file : ℕ) (bytes : List ℕ) : Type 0 where
   pub system : SystemText
-  pub accepts : Accepts bytes system
+  pub accepts : Accepts file bytes system
 
 -- the tokens are no sentence of the grammar, which is said of the first of them
-pub record BreaksGrammar (bytes : List ℕ) (v : Violation) : Type 0 where
+pub record BreaksGrammar (file : ℕ) (bytes : List ℕ) (v : Violation) : Type 0 where
   pub first : Spanned
   pub more : List Spanned
   pub comments : List Comment
-  pub lexes : Lexes 0 bytes (first ∷ more) comments
+  pub lexes : Lexes file bytes (first ∷ more) comments
   pub unspelt : (system : SystemText) → Spells system (first ∷ more) → ⊥
   pub is : v ≡ record { rule = rule.F1; place = first.place }
 
 -- the bytes are a text of a tree whose first violation this is
-pub record BreaksRule (bytes : List ℕ) (v : Violation) : Type 0 where
+pub record BreaksRule (file : ℕ) (bytes : List ℕ) (v : Violation) : Type 0 where
   pub system : SystemText
-  pub text : IsTextOf system bytes
+  pub text : IsTextOf file system bytes
   pub first : first_of_rules system ≡ Some v
 
 -- the violation that is reported of the bytes
-abbrev pub FirstViolation : List ℕ → Violation → Type 0
-FirstViolation bytes v = FirstLexical 0 bytes v ⊎ (BreaksGrammar bytes v ⊎ BreaksRule bytes v)
+abbrev pub FirstViolation : ℕ → List ℕ → Violation → Type 0
+FirstViolation file bytes v = FirstLexical file bytes v ⊎ (BreaksGrammar file bytes v ⊎ BreaksRule file bytes v)
 
 -- the bytes have a first violation
-abbrev pub IsRefused : List ℕ → Type 0
-IsRefused bytes = (v : Violation) × FirstViolation bytes v
+abbrev pub IsRefused : ℕ → List ℕ → Type 0
+IsRefused file bytes = (v : Violation) × FirstViolation file bytes v
 
 -- the name of a rule, as users see it
 abbrev pub rule_text : Rule → List ℕ

@@ -1,5 +1,5 @@
 //! Laws of the rules and of files, each as the contract of a function that does nothing.
-ghost use Rattle.std.specs.Prelude.{◌≡◌, ◌⊎◌, ◌↔◌, ℕ, List, [], false, Some, None, Contains};
+ghost use Rattle.std.specs.Prelude.{◌≡◌, ◌⊎◌, ◌↔◌, ℕ, ◌<◌, List, [], false, Some, None, Contains};
 ghost use Rattle.og_base.specs.declared.Violation.{Violation};
 ghost use Rattle.og_base.specs.Order.{comes_before, first_of};
 ghost use Rattle.og_lexer.specs.declared.Spanned.{Spanned};
@@ -18,11 +18,11 @@ ghost use Rattle.og_front.specs.Written.{IsWrittenTree};
 use og_grammar::each_is_answered;
 use og_lexer::one_reading;
 
-/// Any bytes are an accepted file or have a first violation, which is one, and never both.
+/// The bytes of a file of any number are accepted or have a first violation, which is one, and never both.
 pub fn one_answer()
-    ensures each { (bytes : List ℕ) → IsAccepted bytes ⊎ IsRefused bytes }
-    ensures apart { (bytes : List ℕ) (v : Violation) → IsAccepted bytes → FirstViolation bytes v → ⊥ }
-    ensures one { (bytes : List ℕ) (v w : Violation) → FirstViolation bytes v → FirstViolation bytes w → v ≡ w }
+    ensures each { (file : ℕ) (bytes : List ℕ) → IsAccepted file bytes ⊎ IsRefused file bytes }
+    ensures apart { (file : ℕ) (bytes : List ℕ) (v : Violation) → IsAccepted file bytes → FirstViolation file bytes v → ⊥ }
+    ensures one { (file : ℕ) (bytes : List ℕ) (v w : Violation) → FirstViolation file bytes v → FirstViolation file bytes w → v ≡ w }
 {
     one_reading();
     each_is_answered();
@@ -46,10 +46,10 @@ pub fn names_are_short()
         Spells system tokens → AreInPlace file bytes at tokens → HasShortNames system }
 {}
 
-/// The names and places of the first file, whose tokens stand in their places, are such as stand in a text.
+/// The names and places of a file with a number below 64, whose tokens stand in their places, are such as stand in a text.
 pub fn trees_are_written()
-    ensures { (system : SystemText) (tokens : List Spanned) (bytes : List ℕ) (at : ℕ) →
-        Spells system tokens → AreInPlace 0 bytes at tokens → IsWrittenTree system }
+    ensures { (system : SystemText) (tokens : List Spanned) (file : ℕ) (bytes : List ℕ) (at : ℕ) →
+        file < 64 → Spells system tokens → AreInPlace file bytes at tokens → IsWrittenTree system }
 {}
 
 /// The model of a tree that comes from a text and violates no rule is well formed, and its states are all basic.

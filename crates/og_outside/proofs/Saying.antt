@@ -4,7 +4,7 @@ use Rattle.og_base.specs.Store.{Files, Rose}
 use Rattle.og_tool.specs.declared.status.Status.{Status}
 use Rattle.og_tool.specs.declared.status.Status.TheVariants.{Done, Refused, Usage, ReadFault, WriteFault, NoMemory, BadFile, Past, Faulted, Stuck, TooLarge}
 use Rattle.og_tool.specs.Answers.{Wrote, WroteSome, FailedToRead, IsTooLarge}
-use Rattle.og_tool.specs.Words.{IsNoCommand}
+use Rattle.og_words.specs.Words.{IsNoCommand}
 use Rattle.og_outside.specs.Ends.{Says}
 
 pub record Clauses (status : Status) (words : List (List ℕ)) (told : Option Files) (was is : List ℕ → ℕ) (old new : Option (List ℕ)) (before after : ℕ) : Type 0 where

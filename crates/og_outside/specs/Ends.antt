@@ -6,7 +6,7 @@ use Rattle.og_tool.specs.declared.status.Status.{Status}
 use Rattle.og_tool.specs.declared.status.Status.TheVariants.{Done, Refused, Usage, ReadFault, WriteFault, NoMemory, BadFile, Past, Faulted, Stuck, TooLarge}
 use Rattle.og_tool.specs.Answers.{Wrote, WroteSome, FailedToRead, IsTooLarge}
 use Rattle.og_tool.specs.Statuses.{code_of}
-use Rattle.og_tool.specs.Words.{IsNoCommand}
+use Rattle.og_words.specs.Words.{IsNoCommand}
 
 -- what the answer says, where a store tells its files, the failures of reading were and are so many, a sink held and holds
 -- this, and its failures were and are so many

@@ -1,13 +1,8 @@
 pub mod RunParts
 pub mod Layers
-pub mod CommandForms
-pub mod OneCommand
-pub mod WordExamples
 pub mod GivenStimuli
 pub mod ProgramParts
 pub mod RunningParts
-pub mod Judgements
-pub mod InFiles
 pub mod ReadingParts
 pub mod OneOutput
 pub mod OneSimulation

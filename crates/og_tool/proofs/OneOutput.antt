@@ -15,23 +15,24 @@ use Rattle.og_tool.specs.declared.program.BadProgram.TheVariants.{NoForm, TooDee
 use Rattle.og_tool.specs.declared.status.Status.{Status}
 use Rattle.og_tool.specs.declared.status.Status.TheVariants.{Refused}
 use Rattle.og_tool.specs.Answers.{limit, HasRead, AreRead, HasModel, HasProgram, IsReport, accepted_line, IsAcceptance, IsBadLine, as_word, IsTrace, IsOutputFor, IsLargeAmong, IsTooLargeFor, status_of}
-use Rattle.og_tool.specs.Judging.{SourceFile, AreTextOf, IsFirstViolation, HaveModel}
+use Rattle.og_judge.specs.Judging.{SourceFile, AreTextOf, AreAccepted, IsFirstViolation, HaveModel}
+use Rattle.og_lexer.specs.declared.Language.{Language}
+use Rattle.og_tool.proofs.ReadingParts.{one_language}
 use Rattle.og_front.specs.declared.syntax.SystemText.{SystemText}
 use Rattle.og_front.specs.Files.{report_line}
 use Rattle.og_names.specs.Folding.{folded}
 use Rattle.og_base.specs.declared.Violation.{Violation}
 use Rattle.og_tool.specs.Programs.{IsTextOfProgram, IsBadFor, bad_program_line}
-use Rattle.og_tool.specs.Words.{Command, Check, Compile, Run, Simulate}
-use Rattle.og_front.proofs.OneAnswer.{OneText, OneLexical, Apart}
-use Rattle.og_tool.proofs.Judgements.{TextLaws, one_tree, never_both, one_violation, one_model}
+use Rattle.og_words.specs.Words.{Command, Check, Compile, Run, Simulate}
 use Rattle.og_tool.proofs.ProgramParts.{OneProgram, NotDeep, NotBad}
 use Rattle.og_names.proofs.Truths.{same_value as same_some}
 
--- what the laws of texts say
+-- what the laws of judgements and of texts say
 pub record Laws : Type 0 where
-  pub texts : OneText
-  pub lexicals : OneLexical
-  pub apart : Apart
+  pub never_both : (files : List SourceFile) (v : Violation) → AreAccepted files → IsFirstViolation files v → ⊥
+  pub one_violation : (files : List SourceFile) (v w : Violation) → IsFirstViolation files v → IsFirstViolation files w → v ≡ w
+  pub one_model : (files : List SourceFile) (M N : Model) → HaveModel files M → HaveModel files N → M ≡ N
+  pub one_tree : (files : List SourceFile) (a b : SystemText) → AreTextOf a 0 files → AreTextOf b 0 files → a ≡ b
   pub programs : OneProgram
   pub not_deep : NotDeep
   pub not_bad : NotBad
@@ -51,14 +52,11 @@ never_large files name a x more =
 
 -- ---- the model files
 
-text_laws : Laws → TextLaws
-text_laws laws = record { texts = laws.texts; lexicals = laws.lexicals; apart = laws.apart }
-
-same_source : (a b : SourceFile) → a.name ≡ b.name → a.bytes ≡ b.bytes → a ≡ b
-same_source a b names bytes =
-    let by_name : List ℕ → SourceFile = λ name. record { name = name; bytes = a.bytes } in
-    let by_bytes : List ℕ → SourceFile = λ bs. record { name = b.name; bytes = bs } in
-    ap by_name names ∙ ap by_bytes bytes
+same_source : (a b : SourceFile) → a.language ≡ b.language → a.bytes ≡ b.bytes → a ≡ b
+same_source a b language bytes =
+    let by_language : Language → SourceFile = λ l. record { language = l; bytes = a.bytes } in
+    let by_bytes : List ℕ → SourceFile = λ bs. record { language = b.language; bytes = bs } in
+    ap by_language language ∙ ap by_bytes bytes
 
 both_same : (a b : SourceFile) (as' bs : List SourceFile) → a ≡ b → as' ≡ bs → a ∷ as' ≡ b ∷ bs
 both_same a b as' bs d e = cc
@@ -70,7 +68,7 @@ same_files files [] (a ∷ xs) ys x y = absurd x
 same_files files (name ∷ names) [] ys x y = absurd x
 same_files files (name ∷ names) (a ∷ xs) [] x y = absurd y
 same_files files (name ∷ names) (a ∷ xs) (b ∷ ys) x y =
-    both_same a b xs ys (same_source a b (x.0 ∙ sym y.0) (same_bytes files name a.bytes b.bytes x.1 y.1)) (same_files files names xs ys x.2 y.2)
+    both_same a b xs ys (same_source a b (one_language name a.language b.language x.0 y.0) (same_bytes files name a.bytes b.bytes x.1 y.1)) (same_files files names xs ys x.2 y.2)
 
 read_not_large : (files : Files) (names : List (List ℕ)) (xs : List SourceFile) → AreRead (Some files) names xs → IsLargeAmong (Some files) names → ⊥
 read_not_large files [] xs read large = large
@@ -81,25 +79,25 @@ read_not_large files (name ∷ names) (a ∷ xs) read (inr later) = read_not_lar
 pub same_model : Laws → (files : Files) (names : List (List ℕ)) (M N : Model) → HasModel (Some files) names M → HasModel (Some files) names N → M ≡ N
 same_model laws files names M N x y =
     let P : List SourceFile → Type 0 = λ fs. HaveModel fs N in
-    one_model (text_laws laws) x.files M N x.have (subst P (same_files files names y.files x.files y.read x.read) y.have)
+    laws.one_model x.files M N x.have (subst P (same_files files names y.files x.files y.read x.read) y.have)
 
 pub never_reported : Laws → (files : Files) (names : List (List ℕ)) (line : List ℕ) (M : Model) (status : Status) → HasModel (Some files) names M → IsReport (Some files) names status line → ⊥
 never_reported laws files names line M status x report =
     let P : List SourceFile → Type 0 = λ fs. IsFirstViolation fs report.violation in
-    never_both (text_laws laws) x.files report.violation x.have.accepted (subst P (same_files files names report.files x.files report.read x.read) report.first)
+    laws.never_both x.files report.violation x.have.accepted (subst P (same_files files names report.files x.files report.read x.read) report.first)
 
 pub same_report : Laws → (files : Files) (names : List (List ℕ)) (line more : List ℕ) (status other : Status) → IsReport (Some files) names status line → IsReport (Some files) names other more → (status ≡ other) × (line ≡ more)
 same_report laws files names line more status other x y =
     let P : List SourceFile → Type 0 = λ fs. IsFirstViolation fs y.violation in
-    let same : x.violation ≡ y.violation = one_violation (text_laws laws) x.files x.violation y.violation x.first (subst P (same_files files names y.files x.files y.read x.read) y.first) in
+    let same : x.violation ≡ y.violation = laws.one_violation x.files x.violation y.violation x.first (subst P (same_files files names y.files x.files y.read x.read) y.first) in
     let word : Some x.name ≡ Some y.name = sym x.named ∙ ap (λ (v : Violation). slice_get names v.place.file) same ∙ y.named in
     (x.refused ∙ sym y.refused, x.is ∙ ap (λ name. report_line name x.violation) (same_some x.name y.name word) ∙ ap (report_line y.name) same ∙ sym y.is)
 
 same_acceptance : Laws → (files : Files) (names : List (List ℕ)) (line more : List ℕ) (status other : Status) → IsAcceptance (Some files) names status line → IsAcceptance (Some files) names other more → (status ≡ other) × (line ≡ more)
 same_acceptance laws files names line more status other x y =
-    let P : List SourceFile → Type 0 = λ fs. AreTextOf y.has_model.have.system fs in
+    let P : List SourceFile → Type 0 = λ fs. AreTextOf y.has_model.have.system 0 fs in
     let text = subst P (same_files files names y.has_model.files x.has_model.files y.has_model.read x.has_model.read) y.has_model.have.text in
-    let same = one_tree (text_laws laws) x.has_model.files x.has_model.have.system y.has_model.have.system x.has_model.have.text text in
+    let same = laws.one_tree x.has_model.files x.has_model.have.system y.has_model.have.system x.has_model.have.text text in
     (x.done ∙ sym y.done, x.is ∙ ap (λ (system : SystemText). accepted_line (folded system.process.word.bytes)) same ∙ sym y.is)
 
 -- ---- the file of a program

@@ -24,7 +24,7 @@ use Rattle.og_trace.specs.Traces.{trace_of, outcome_by, outcome_of, at_file_end,
 use Rattle.og_tool.specs.declared.status.Status.{Status}
 use Rattle.og_tool.specs.declared.status.Status.TheVariants as status
 use Rattle.og_tool.specs.Answers.{as_word, IsTrace, IsOutputFor, status_of}
-use Rattle.og_tool.specs.Words.{Simulate}
+use Rattle.og_words.specs.Words.{Simulate}
 use Rattle.og_tool.proofs.OneOutput.{Laws, same_bytes, same_model, never_reported, same_report}
 use Rattle.og_tool.proofs.GivenStimuli.{stimuli_are_taken}
 

@@ -16,19 +16,23 @@ use Rattle.og_front.proofs.NameTables.{all_known, name_at}
 use Rattle.og_model.specs.declared.Model.{Model}
 use Rattle.og_names.specs.Folding.{folded}
 use Rattle.og_stim.specs.Trace.{name_of}
-use Rattle.og_tool.specs.Answering.{IsFirst, IsBuilt, AreContents, seen, IsReady, IsRefusalOf, TellsModel}
+use Rattle.og_tool.specs.Answering.{IsReady, IsRefusalOf, TellsModel}
 use Rattle.og_tool.specs.declared.reading.Judgement.{Judgement}
 use Rattle.og_tool.specs.declared.reading.Judgement.TheVariants as judged
-use Rattle.og_tool.proofs.InFiles.{stands_in_a_file}
-use Rattle.std.specs.declared.vec.Vec.{Vec}
+use Rattle.og_judge.proofs.InFiles.{stands_in_a_file}
 use Rattle.std.proofs.lemmas.List.{length-map}
-use Rattle.og_tool.specs.Answers.{limit, HasRead, AreRead, RoseAt, FailedAmong, IsLargeAmong, accepted_line}
-use Rattle.og_tool.specs.Asked.{texts}
-use Rattle.og_tool.specs.Judging.{SourceFile, IsFirstViolation, HaveModel}
-use Rattle.og_tool.proofs.Judgements.{first_alone, accepted_alone}
-use Rattle.og_tool.proofs.CommandForms.{texts_more}
+use Rattle.og_tool.specs.Answers.{limit, IsNamedAs, HasRead, AreRead, RoseAt, FailedAmong, IsLargeAmong, accepted_line}
+use Rattle.og_words.specs.Asked.{texts}
+use Rattle.og_judge.specs.declared.ModelFile.{ModelFile}
+use Rattle.og_judge.specs.Judging.{SourceFile, source, sources, AreAsn, HasOneProcess, AreShort, most_files, IsFirstViolation, HaveModel}
+use Rattle.og_judge.specs.Answers.{IsJudged, Refuses}
+use Rattle.og_lexer.specs.declared.Language.{Language}
+use Rattle.og_lexer.specs.declared.Language.TheVariants.{Sdl, Asn}
+use Rattle.og_words.specs.Words.{IsAsnFile, HasOneSdlFile, AreModelFiles}
+use Rattle.og_words.proofs.OneCommand.{two_languages}
+use Rattle.og_words.proofs.CommandForms.{texts_more}
 use Rattle.og_tool.proofs.RunningParts.{rose_before}
-use Rattle.std.specs.List.{flat_map}
+use Rattle.std.specs.List.{flat_map, AllByRecursion}
 
 -- ---- one more file
 
@@ -38,105 +42,50 @@ parted names i d less =
     ap texts (sym (take-append-drop i names) ∙ ap (λ rest. take i names ++ rest) (drop-cons names i d less))
     ∙ map-append string_bytes (take i names) (get_or names i d ∷ drop (suc i) names)
 
-contents_more : (told : Option Files) (names contents : List (List ℕ)) (name bytes : List ℕ) → AreContents told names contents → HasRead told name bytes → AreContents told (names ++ name ∷ []) (contents ++ bytes ∷ [])
-contents_more told [] [] name bytes are read = (read, tt)
-contents_more told [] (b ∷ contents) name bytes are read = absurd are
-contents_more told (n ∷ names) [] name bytes are read = absurd are
-contents_more told (n ∷ names) (b ∷ contents) name bytes are read = (are.0, contents_more told names contents name bytes are.1 read)
+read_more : (told : Option Files) (names : List (List ℕ)) (files : List SourceFile) (name : List ℕ) (file : SourceFile) → AreRead told names files → IsNamedAs file.language name → HasRead told name file.bytes
+    → AreRead told (names ++ name ∷ []) (files ++ file ∷ [])
+read_more told [] [] name file are named read = (named, read, tt)
+read_more told [] (f ∷ files) name file are named read = absurd are
+read_more told (n ∷ names) [] name file are named read = absurd are
+read_more told (n ∷ names) (f ∷ files) name file are named read = (are.0, are.1, read_more told names files name file are.2 named read)
 
-failed_behind : (told : Option Files) (names contents : List (List ℕ)) (name : List ℕ) (more : List (List ℕ)) (old new : List ℕ → ℕ) → AreContents told names contents → RoseAt name old new
+failed_behind : (told : Option Files) (names : List (List ℕ)) (files : List SourceFile) (name : List ℕ) (more : List (List ℕ)) (old new : List ℕ → ℕ) → AreRead told names files → RoseAt name old new
     → FailedAmong told (names ++ name ∷ more) old new
-failed_behind told [] contents name more old new are rose = inl rose
+failed_behind told [] files name more old new are rose = inl rose
 failed_behind told (n ∷ names) [] name more old new are rose = absurd are
-failed_behind told (n ∷ names) (b ∷ contents) name more old new are rose = inr ((b, are.0), failed_behind told names contents name more old new are.1 rose)
+failed_behind told (n ∷ names) (f ∷ files) name more old new are rose = inr ((f.bytes, are.1), failed_behind told names files name more old new are.2 rose)
 
-large_behind : (told : Option Files) (names contents : List (List ℕ)) (name : List ℕ) (more : List (List ℕ)) → AreContents told names contents → HoldsMore told name limit
+large_behind : (told : Option Files) (names : List (List ℕ)) (files : List SourceFile) (name : List ℕ) (more : List (List ℕ)) → AreRead told names files → HoldsMore told name limit
     → IsLargeAmong told (names ++ name ∷ more)
-large_behind told [] contents name more are large = inl large
+large_behind told [] files name more are large = inl large
 large_behind told (n ∷ names) [] name more are large = absurd are
-large_behind told (n ∷ names) (b ∷ contents) name more are large = inr ((b, are.0), large_behind told names contents name more are.1 large)
+large_behind told (n ∷ names) (f ∷ files) name more are large = inr ((f.bytes, are.1), large_behind told names files name more are.2 large)
 
 -- the same of the words of a loop over files
-pub next_contents : (told : Option Files) (names : List (String Global)) (i : ℕ) (d : String Global) (name bytes : List ℕ) (contents : List (List ℕ)) → i < length names → name ≡ string_bytes (get_or names i d)
-    → AreContents told (texts (take i names)) contents → HasRead told name bytes → AreContents told (texts (take (i + 1) names)) (contents ++ bytes ∷ [])
-next_contents told names i d name bytes contents less is are read =
-    let P : List (List ℕ) → Type 0 = λ ns. AreContents told ns (contents ++ bytes ∷ []) in
+pub next_read : (told : Option Files) (names : List (String Global)) (i : ℕ) (d : String Global) (name : List ℕ) (old new : List ModelFile) (file : ModelFile) → i < length names → name ≡ string_bytes (get_or names i d)
+    → AreRead told (texts (take i names)) (sources old) → IsNamedAs file.language name → HasRead told name file.bytes.items → new ≡ old ++ file ∷ [] → AreRead told (texts (take (i + 1) names)) (sources new)
+next_read told names i d name old new file less is are named read e =
+    let P : List (List ℕ) → Type 0 = λ ns. AreRead told ns (sources old ++ source file ∷ []) in
+    let Q : List SourceFile → Type 0 = λ fs. AreRead told (texts (take (i + 1) names)) fs in
     let more : texts (take (i + 1) names) ≡ texts (take i names) ++ name ∷ [] = texts_more names i d less ∙ ap (λ n. texts (take i names) ++ n ∷ []) (sym is) in
-    subst P (sym more) (contents_more told (texts (take i names)) contents name bytes are read)
+    let same : sources new ≡ sources old ++ source file ∷ [] = ap sources e ∙ map-append source old (file ∷ []) in
+    subst Q (sym same) (subst P (sym more) (read_more told (texts (take i names)) (sources old) name (source file) are named read))
 
-pub failed_here : (told : Option Files) (names : List (String Global)) (i : ℕ) (d : String Global) (name : List ℕ) (contents : List (List ℕ)) (old between new : List ℕ → ℕ) → i < length names → name ≡ string_bytes (get_or names i d)
-    → ((other : List ℕ) → old other ≤ between other) → AreContents told (texts (take i names)) contents → RoseAt name between new → FailedAmong told (texts names) old new
-failed_here told names i d name contents old between new less is no_less are rose =
+pub failed_here : (told : Option Files) (names : List (String Global)) (i : ℕ) (d : String Global) (name : List ℕ) (files : List SourceFile) (old between new : List ℕ → ℕ) → i < length names → name ≡ string_bytes (get_or names i d)
+    → ((other : List ℕ) → old other ≤ between other) → AreRead told (texts (take i names)) files → RoseAt name between new → FailedAmong told (texts names) old new
+failed_here told names i d name files old between new less is no_less are rose =
     let P : List (List ℕ) → Type 0 = λ ns. FailedAmong told ns old new in
     let all : texts names ≡ texts (take i names) ++ name ∷ texts (drop (suc i) names) = parted names i d less ∙ ap (λ n. texts (take i names) ++ n ∷ texts (drop (suc i) names)) (sym is) in
-    subst P (sym all) (failed_behind told (texts (take i names)) contents name (texts (drop (suc i) names)) old new are (rose_before (old name) (between name) (new name) (no_less name) rose))
+    subst P (sym all) (failed_behind told (texts (take i names)) files name (texts (drop (suc i) names)) old new are (rose_before (old name) (between name) (new name) (no_less name) rose))
 
-pub large_here : (told : Option Files) (names : List (String Global)) (i : ℕ) (d : String Global) (name : List ℕ) (contents : List (List ℕ)) → i < length names → name ≡ string_bytes (get_or names i d)
-    → AreContents told (texts (take i names)) contents → HoldsMore told name limit → IsLargeAmong told (texts names)
-large_here told names i d name contents less is are large =
+pub large_here : (told : Option Files) (names : List (String Global)) (i : ℕ) (d : String Global) (name : List ℕ) (files : List SourceFile) → i < length names → name ≡ string_bytes (get_or names i d)
+    → AreRead told (texts (take i names)) files → HoldsMore told name limit → IsLargeAmong told (texts names)
+large_here told names i d name files less is are large =
     let P : List (List ℕ) → Type 0 = λ ns. IsLargeAmong told ns in
     let all : texts names ≡ texts (take i names) ++ name ∷ texts (drop (suc i) names) = parted names i d less ∙ ap (λ n. texts (take i names) ++ n ∷ texts (drop (suc i) names)) (sym is) in
-    subst P (sym all) (large_behind told (texts (take i names)) contents name (texts (drop (suc i) names)) are large)
+    subst P (sym all) (large_behind told (texts (take i names)) files name (texts (drop (suc i) names)) are large)
 
--- the bytes of one more file
-pub seen_more : (new old : List (Vec ℕ Global)) (bytes : Vec ℕ Global) → new ≡ old ++ bytes ∷ [] → seen new ≡ seen old ++ bytes.items ∷ []
-seen_more new old bytes e = ap seen e ∙ map-append (λ (v : Vec ℕ Global). v.items) old (bytes ∷ [])
-
--- ---- a single file
-
-pub record IsAlone (told : Option Files) (names contents : List (List ℕ)) (bytes : List ℕ) : Type 0 where
-  pub name : List ℕ
-  pub names_are : names ≡ name ∷ []
-  pub contents_are : contents ≡ bytes ∷ []
-  pub read : HasRead told name bytes
-
-pub alone : (told : Option Files) (names contents : List (List ℕ)) → length names ≡ 1 → AreContents told names contents → (bytes : List ℕ) → bytes ≡ get_or contents 0 bytes → IsAlone told names contents bytes
-alone told [] contents one are bytes first = absurd (omega (arith, one))
-alone told (name ∷ []) [] one are bytes first = absurd are
-alone told (name ∷ []) (b ∷ []) one are bytes first = record { name = name; names_are = refl; contents_are = ap (λ x. x ∷ []) (sym first); read = subst (HasRead told name) (sym first) are.0 }
-alone told (name ∷ []) (b ∷ more ∷ contents) one are bytes first = absurd are.1
-alone told (name ∷ other ∷ names) contents one are bytes first = absurd (omega (arith, one))
-
--- the same of the vectors of bytes that were read
-pub alone_of : (told : Option Files) (names : List (List ℕ)) (items : List (Vec ℕ Global)) (v : Vec ℕ Global) (bytes : List ℕ) → length names ≡ 1 → AreContents told names (seen items) → v ≡ get_or items 0 v → bytes ≡ v.items
-    → IsAlone told names (seen items) bytes
-alone_of told names [] v bytes one are first is = alone told names [] one are bytes refl
-alone_of told names (w ∷ items) v bytes one are first is = alone told names (seen (w ∷ items)) one are bytes (is ∙ ap (λ (x : Vec ℕ Global). x.items) first)
-
--- the list of a single file
-abbrev source : List ℕ → List ℕ → List SourceFile
-source name bytes = record { name = name; bytes = bytes } ∷ []
-
-read_alone : (told : Option Files) (names contents : List (List ℕ)) (bytes : List ℕ) → (a : IsAlone told names contents bytes) → AreRead told names (source a.name bytes)
-read_alone told names contents bytes a = subst (λ ns. AreRead told ns (source a.name bytes)) (sym a.names_are) (refl, a.read, tt)
-
-pub ready_alone : (told : Option Files) (names contents : List (List ℕ)) (bytes : List ℕ) (model : Model) → IsAlone told names contents bytes → IsBuilt bytes model → IsReady told names model
-ready_alone told names contents bytes model a built = record {
-  has_model = record {
-    files = source a.name bytes;
-    read = read_alone told names contents bytes a;
-    have = record {
-      accepted = accepted_alone (record { name = a.name; bytes = bytes }) built.system built.accepts.text built.accepts.keeps;
-      system = built.system;
-      text = built.accepts.text;
-      is = built.is;
-    };
-  };
-  can = built.can;
-}
-
--- the files and their first violation
-pub record HasFirst (told : Option Files) (names : List (List ℕ)) (v : Violation) : Type 0 where
-  pub files : List SourceFile
-  pub read : AreRead told names files
-  pub first : IsFirstViolation files v
-
-pub first_read : (told : Option Files) (names contents : List (List ℕ)) (bytes : List ℕ) (v : Violation) → IsAlone told names contents bytes → IsFirst bytes (Broken v) → HasFirst told names v
-first_read told names contents bytes v a first = record {
-  files = source a.name bytes;
-  read = read_alone told names contents bytes a;
-  first = first_alone (record { name = a.name; bytes = bytes }) v first;
-}
+-- ---- the files that were read
 
 -- as many files are read as there are names
 pub as_many : (told : Option Files) (names : List (List ℕ)) (files : List SourceFile) → AreRead told names files → length files ≡ length names
@@ -144,6 +93,53 @@ as_many told [] [] read = refl
 as_many told [] (f ∷ files) read = absurd read
 as_many told (n ∷ names) [] read = absurd read
 as_many told (n ∷ names) (f ∷ files) read = let rest = as_many told names files read.2 in omega (arith, rest)
+
+-- each of them is short
+pub all_short : (told : Option Files) (names : List (List ℕ)) (files : List SourceFile) → AreRead told names files → AreShort files
+all_short told [] [] read = tt
+all_short told [] (f ∷ files) read = absurd read
+all_short told (n ∷ names) [] read = absurd read
+all_short told (n ∷ names) (f ∷ files) read = (let small = read.1.small in omega (arith, small), all_short told names files read.2)
+
+-- a name tells the language
+pub one_language : (name : List ℕ) (a b : Language) → IsNamedAs a name → IsNamedAs b name → a ≡ b
+one_language name Sdl Sdl x y = refl
+one_language name Sdl Asn x y = absurd (two_languages name x y)
+one_language name Asn Sdl x y = absurd (two_languages name y x)
+one_language name Asn Asn x y = refl
+
+all_asn : (told : Option Files) (names : List (List ℕ)) (files : List SourceFile) → AreRead told names files → AllByRecursion IsAsnFile names → AreAsn files
+all_asn told [] [] read all = tt
+all_asn told [] (f ∷ files) read all = absurd read
+all_asn told (n ∷ names) [] read all = absurd read
+all_asn told (n ∷ names) (f ∷ files) read all = (one_language n f.language Asn read.0 all.0, all_asn told names files read.2 all.1)
+
+-- the one file of SDL/PR
+pub has_one : (told : Option Files) (names : List (List ℕ)) (files : List SourceFile) → AreRead told names files → HasOneSdlFile names → HasOneProcess files
+has_one told [] files read one = absurd one
+has_one told (n ∷ names) [] read one = absurd read
+has_one told (n ∷ names) (f ∷ files) read (inl sdl) = inl (one_language n f.language Sdl read.0 sdl.0, all_asn told names files read.2 sdl.1)
+has_one told (n ∷ names) (f ∷ files) read (inr asn) = inr (one_language n f.language Asn read.0 asn.0, has_one told names files read.2 asn.1)
+
+pub are_few : (told : Option Files) (words : List (String Global)) (files : List ModelFile) → AreRead told (texts words) (sources files) → AreModelFiles (texts words) → length files ≤ most_files
+are_few told words files read are =
+    let many = as_many told (texts words) (sources files) read in
+    let same = length-map files source in
+    let few = are.few in
+    omega (arith, many, same, few)
+
+-- accepted files have their model
+pub ready : (told : Option Files) (names : List (List ℕ)) (files : List SourceFile) (model : Model) → AreRead told names files → IsJudged files model → IsReady told names model
+ready told names files model read judged = record { has_model = record { files = files; read = read; have = judged.have }; can = judged.can }
+
+-- the files and their first violation
+pub record HasFirst (told : Option Files) (names : List (List ℕ)) (v : Violation) : Type 0 where
+  pub files : List SourceFile
+  pub read : AreRead told names files
+  pub first : IsFirstViolation files v
+
+pub first_read : (told : Option Files) (names : List (List ℕ)) (files : List SourceFile) (v : Violation) → AreRead told names files → Refuses files (Broken v) → HasFirst told names v
+first_read told names files v read first = record { files = files; read = read; first = first }
 
 pub stands_among : (told : Option Files) (words : List (String Global)) (v : Violation) → HasFirst told (texts words) v → v.place.file < length words
 stands_among told words v has =

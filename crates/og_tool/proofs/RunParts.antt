@@ -10,48 +10,10 @@ use Rattle.og_trace.specs.Traces.{run_outcome}
 use Rattle.og_tool.specs.declared.status.Status.{Status}
 use Rattle.og_tool.specs.declared.status.Status.TheVariants.{Done, Refused, BadFile, Past, Faulted, Stuck}
 use Rattle.og_tool.specs.Answers.{IsOutputFor, IsSimulation, status_of}
-use Rattle.og_tool.specs.Words.{Command, Check, Compile, Run, Simulate, AsksFor, AskForRun}
+use Rattle.og_words.specs.Words.{Command, Check, Compile, Run, Simulate, AsksFor, AskForRun}
 use Rattle.og_tool.proofs.GivenStimuli.{agreeing_is_never_stuck}
 use Rattle.og_front.proofs.Resolving.{model_is_basic}
-use Rattle.og_base.specs.declared.ModelError.{ModelError}
-use Rattle.og_base.specs.declared.ModelError.TheVariants.{Broken}
-use Rattle.og_base.specs.declared.Rule.TheVariants.{F1}
-use Rattle.og_base.specs.declared.Violation.{Violation}
-use Rattle.og_lexer.specs.declared.Spanned.{Spanned}
-use Rattle.og_lexer.specs.declared.Comment.{Comment}
-use Rattle.og_lexer.specs.Texts.{Lexes}
-use Rattle.og_front.specs.declared.syntax.SystemText.{SystemText}
-use Rattle.og_tool.specs.Answering.{IsFirst, IsBuilt, IsBuiltFrom, CommandAnswer, WroteAll}
-use Rattle.og_front.specs.Files.{IsTextOf, FirstViolation, BreaksGrammar}
-use Rattle.og_front.specs.Grammar.{Spells}
-
--- the error is the first token's, which the tokens have
-abbrev pub NamesFirstToken : List Spanned → ModelError → Type 0
-NamesFirstToken tokens error = (first : Spanned) × (more : List Spanned) × (tokens ≡ first ∷ more) × (error ≡ Broken (record { rule = F1; place = first.place }))
-
--- tokens that are no sentence have F1 at the first of them as the first violation
-pub no_tree : (bytes : List ℕ) (tokens shown : List Spanned) (comments : List Comment) (error : ModelError)
-    → Lexes 0 bytes tokens comments → shown ≡ tokens → ((system : SystemText) → Spells system shown → ⊥) → NamesFirstToken shown error → IsFirst bytes error
-no_tree bytes tokens shown comments error lexes same none named =
-    let P : List Spanned → Type 0 = λ ts. Lexes 0 bytes ts comments in
-    let Q : List Spanned → Type 0 = λ ts. (system : SystemText) → Spells system ts → ⊥ in
-    let v : Violation = record { rule = F1; place = named.0.place } in
-    let breaks : BreaksGrammar bytes v = record {
-      first = named.0;
-      more = named.1;
-      comments = comments;
-      lexes = subst P (sym same ∙ named.2) lexes;
-      unspelt = subst Q named.2 none;
-      is = refl;
-    } in
-    let R : ModelError → Type 0 = λ e. IsFirst bytes e in
-    let first : FirstViolation bytes v = inr (inl breaks) in
-    subst R (sym named.3) first
-
--- the model of a tree whose text the bytes are is the model of the bytes
-pub built_if : (result : Result Model ModelError) (bytes : List ℕ) (system : SystemText) → IsTextOf system bytes → IfOk result (IsBuiltFrom system) → IfOk result (IsBuilt bytes)
-built_if (Ok model) bytes system text built = record { system = system; accepts = record { text = text; keeps = built.keeps }; is = built.is; can = built.can }
-built_if (Err error) bytes system text built = _
+use Rattle.og_tool.specs.Answering.{CommandAnswer, WroteAll}
 
 -- ---- what a command calls for
 

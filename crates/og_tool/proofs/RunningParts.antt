@@ -14,7 +14,7 @@ use Rattle.og_tool.specs.declared.status.Status.TheVariants.{BadFile}
 use Rattle.og_tool.specs.Answers.{limit, HasRead, HasModel, HasProgram, IsTrace, IsOutputFor, IsTooLargeFor, RoseAt, FailedAmong, FailedFor}
 use Rattle.og_tool.specs.Loading.{IsLoaded, Agrees}
 use Rattle.og_tool.specs.Programs.{IsBadFor, bad_program_line}
-use Rattle.og_tool.specs.Words.{Command, Check, Compile, Run, Simulate}
+use Rattle.og_words.specs.Words.{Command, Check, Compile, Run, Simulate}
 use Rattle.og_tool.proofs.ProgramParts.{its_program}
 
 -- the program of a loaded machine is the one that the file spells

@@ -1,11 +1,7 @@
 -- What the parts of the top call answer.
-use Rattle.std.specs.Prelude.{◌≡◌, ℕ, List, [], ◌∷◌, map, slice_get, Option, Some, None}
-use Rattle.std.specs.declared.alloc.Global.{Global}
-use Rattle.std.specs.declared.vec.Vec.{Vec}
-use Rattle.og_base.specs.declared.ModelError.{ModelError}
+use Rattle.std.specs.Prelude.{◌≡◌, ℕ, List, slice_get, Option, Some}
 use Rattle.og_base.specs.declared.read.ReadError.{ReadError}
 use Rattle.og_base.specs.declared.read.ReadError.TheVariants as unread
-use Rattle.og_base.specs.declared.ModelError.TheVariants as error
 use Rattle.og_base.specs.declared.Violation.{Violation}
 use Rattle.og_base.specs.Store.{Files, Rose}
 use Rattle.og_base.specs.Sink.{grown, WroteFront}
@@ -14,49 +10,12 @@ use Rattle.og_tool.specs.declared.reading.Judgement.{Judgement}
 use Rattle.og_tool.specs.declared.reading.Judgement.TheVariants as judged
 use Rattle.og_tool.specs.declared.status.Status.{Status}
 use Rattle.og_tool.specs.declared.status.Status.TheVariants.{Done, Refused, Usage, ReadFault, WriteFault, NoMemory, BadFile, Past, Faulted, Stuck, TooLarge}
-use Rattle.og_front.specs.declared.syntax.SystemText.{SystemText}
-use Rattle.og_tool.specs.Answers.{HasRead, HasModel, IsReport, IsOutputFor, FailedFor, IsTooLargeFor}
-use Rattle.og_front.specs.Files.{Accepts, FirstViolation, report_line}
-use Rattle.og_front.specs.ModelOf.{model_of_tree}
-use Rattle.og_tool.specs.Ready.{CanRun}
-use Rattle.og_front.specs.Rules.{first_of_rules}
-use Rattle.og_tool.specs.Words.{Command}
+use Rattle.og_tool.specs.Answers.{HasModel, IsReport, IsOutputFor, FailedFor, IsTooLargeFor}
+use Rattle.og_front.specs.Files.{report_line}
+use Rattle.og_judge.specs.Ready.{CanRun}
+use Rattle.og_words.specs.Words.{Command}
 
 -- ---- reading a model
-
--- the error is the first violation of the bytes, or want of memory
-abbrev pub IsFirst : List ℕ → ModelError → Type 0
-IsFirst bytes (error.Broken v) = FirstViolation bytes v
-IsFirst bytes (error.NoMemory met) = Unit {0}
-
--- the error is the first violation of the rules on names, states and limits, or want of memory
-abbrev pub IsFirstOfRules : SystemText → ModelError → Type 0
-IsFirstOfRules system (error.Broken v) = first_of_rules system ≡ Some v
-IsFirstOfRules system (error.NoMemory met) = Unit {0}
-
--- the tree keeps the rules, and this is its model
-pub record IsBuiltFrom (system : SystemText) (model : Model) : Type 0 where
-  pub keeps : first_of_rules system ≡ None
-  pub is : model ≡ model_of_tree system
-  pub can : CanRun model
-
--- the bytes are accepted, and this is their model
-pub record IsBuilt (bytes : List ℕ) (model : Model) : Type 0 where
-  pub system : SystemText
-  pub accepts : Accepts bytes system
-  pub is : model ≡ model_of_tree system
-  pub can : CanRun model
-
--- the bytes in vectors
-abbrev pub seen : List (Vec ℕ Global) → List (List ℕ)
-seen contents = map (λ bytes. bytes.items) contents
-
--- these are the bytes of the files of these names
-abbrev pub AreContents : Option Files → List (List ℕ) → List (List ℕ) → Type 0
-AreContents told [] [] = Unit {0}
-AreContents told [] (bytes ∷ contents) = ⊥
-AreContents told (name ∷ names) [] = ⊥
-AreContents told (name ∷ names) (bytes ∷ contents) = HasRead told name bytes × AreContents told names contents
 
 -- the files were read, and this is their model
 pub record IsReady (told : Option Files) (names : List (List ℕ)) (model : Model) : Type 0 where

@@ -8,6 +8,8 @@ use Rattle.og_model.specs.declared.Model.{Model}
 use Rattle.og_csubset.specs.declared.CProgram.{CProgram}
 use Rattle.og_csubset.specs.Agreement.{SameBehaviour}
 use Rattle.og_csubset.specs.Loading.{first_load_rule}
+use Rattle.og_lexer.specs.declared.Language.{Language}
+use Rattle.og_lexer.specs.declared.Language.TheVariants.{Sdl, Asn}
 use Rattle.og_trace.specs.declared.Outcome.{Outcome}
 use Rattle.og_trace.specs.declared.Outcome.TheVariants as outcome
 use Rattle.og_trace.specs.Traces.{run_text, run_outcome}
@@ -18,9 +20,9 @@ use Rattle.og_tool.specs.Compiled.{IsCompiled}
 use Rattle.og_front.specs.Files.{report_line}
 use Rattle.og_names.specs.declared.Word.{Word}
 use Rattle.og_names.specs.Folding.{folded}
-use Rattle.og_tool.specs.Judging.{SourceFile, IsFirstViolation, HaveModel}
+use Rattle.og_judge.specs.Judging.{SourceFile, IsFirstViolation, HaveModel}
 use Rattle.og_tool.specs.Programs.{IsTextOfProgram, IsBadFor, bad_program_line}
-use Rattle.og_tool.specs.Words.{Command, Check, Compile, Run, Simulate, AsksFor}
+use Rattle.og_words.specs.Words.{IsSdlFile, IsAsnFile, Command, Check, Compile, Run, Simulate, AsksFor}
 
 -- the most bytes that a file may have
 abbrev pub limit : ℕ
@@ -33,12 +35,17 @@ pub record HasRead (told : Option Files) (file bytes : List ℕ) : Type 0 where
   pub holds : Holds told file bytes
   pub small : length bytes ≤ limit
 
--- the files of these names were read, in their order
+-- the name is one of a file in this language
+abbrev pub IsNamedAs : Language → List ℕ → Type 0
+IsNamedAs Sdl name = IsSdlFile name
+IsNamedAs Asn name = IsAsnFile name
+
+-- the files of these names were read, in their order, each in the language of its name
 abbrev pub AreRead : Option Files → List (List ℕ) → List SourceFile → Type 0
 AreRead told [] [] = Unit {0}
 AreRead told [] (file ∷ files) = ⊥
 AreRead told (name ∷ names) [] = ⊥
-AreRead told (name ∷ names) (file ∷ files) = (file.name ≡ name) × HasRead told name file.bytes × AreRead told names files
+AreRead told (name ∷ names) (file ∷ files) = IsNamedAs file.language name × HasRead told name file.bytes × AreRead told names files
 
 -- the model files were read, and they are accepted with this model
 pub record HasModel (told : Option Files) (names : List (List ℕ)) (model : Model) : Type 0 where

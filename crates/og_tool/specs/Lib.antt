@@ -1,10 +1,6 @@
-pub mod Words
-pub mod Judging
 pub mod Answers
 pub mod Answering
 pub mod Statuses
 pub mod Compiled
-pub mod Asked
 pub mod Programs
 pub mod Loading
-pub mod Ready

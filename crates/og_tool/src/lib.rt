@@ -1,7 +1,6 @@
 //! The commands of `og`.
 #![tactic(auto)]
 
-mod command;
 mod compile;
 mod output_laws;
 mod program;
@@ -15,9 +14,8 @@ pub use og_front::{
     first_is_least, models_are_well_formed, models_of_trees, names_are_short, one_answer,
     trees_are_written,
 };
-pub use output_laws::{
-    agreeing_is_never_stuck, enough_is_enough, one_command, one_judgement, one_output,
-    one_simulation, words_as_worked_out,
-};
+pub use og_judge::one_judgement;
+pub use og_words::{one_command, words_as_worked_out};
+pub use output_laws::{agreeing_is_never_stuck, enough_is_enough, one_output, one_simulation};
 pub use run::run_tool;
 pub use status::Status;

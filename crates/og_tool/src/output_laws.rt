@@ -1,8 +1,6 @@
 //! Laws of what a command calls for, each as the contract of a function that does nothing.
-ghost use Rattle.std.specs.Prelude.{◌≡◌, ◌≢◌, ◌⊎◌, ◌<◌, ◌≤◌, ℕ, List, [], ◌∷◌, length, codes, Some, false};
-ghost use Rattle.std.specs.List.{AllByRecursion};
+ghost use Rattle.std.specs.Prelude.{◌≡◌, ◌≢◌, ◌≤◌, ℕ, List, Some, false};
 ghost use Rattle.og_base.specs.Store.{Files};
-ghost use Rattle.og_base.specs.declared.Violation.{Violation};
 ghost use Rattle.og_csubset.specs.Agreement.{SameBehaviour, enough};
 ghost use Rattle.og_csubset.specs.declared.CProgram.{CProgram};
 ghost use Rattle.og_model.specs.Forms.{UsesBasicStatesOnly};
@@ -10,19 +8,18 @@ ghost use Rattle.og_model.specs.declared.Model.{Model};
 ghost use Rattle.og_model.specs.Run.{sdl};
 ghost use Rattle.og_model.specs.Shown.{has_past};
 ghost use Rattle.og_tool.specs.declared.status.Status.{Status};
-ghost use Rattle.og_tool.specs.Judging.{SourceFile, AreAccepted, IsFirstViolation, HaveModel};
 ghost use Rattle.og_tool.specs.Answers.{IsOutputFor, IsReport, IsTooLargeFor};
 ghost use Rattle.og_trace.specs.Stims.{stims_of, given};
 ghost use Rattle.og_trace.specs.Traces.{run_outcome};
 ghost use Rattle.og_trace.specs.declared.Outcome.TheVariants as outcome;
-ghost use Rattle.og_tool.specs.Words.{Command, Check, Compile, Run, Simulate, AsksFor, IsNoCommand, IsModelFile, HasSdlFile, AreDifferent};
+ghost use Rattle.og_words.specs.Words.{Command, Check, Compile, Run, Simulate};
 
 use og_csubset::{
     agreeing_programs_show_the_same, more_statements_go_on, one_answer, one_deep_place,
     one_program, one_wrong_place,
 };
-use og_front::{models_are_well_formed, one_answer as one_file_answer};
-use og_lexer::one_reading;
+use og_front::models_are_well_formed;
+use og_judge::one_judgement;
 
 /// Over a store that tells its files, a check and a run call for one text with one status, and the C of a model for one status; a
 /// simulation calls for the line of a violation where there is one. Nothing is called for where a file has too many bytes.
@@ -40,7 +37,7 @@ pub fn one_output()
     ensures too_large { (files : Files) (command : Command) (status : Status) (text : List ℕ) →
         IsOutputFor (Some files) command status text → IsTooLargeFor (Some files) command → ⊥ }
 {
-    one_reading();
+    one_judgement();
     one_program();
     one_answer();
     one_deep_place();
@@ -60,7 +57,7 @@ pub fn one_simulation()
         IsOutputFor (Some files) (Simulate names stimuli steps) status text → IsOutputFor (Some files) (Simulate names stimuli steps) other more →
         status ≢ Status.Past → other ≢ Status.Past → (status ≡ other) × (text ≡ more) }
 {
-    one_reading();
+    one_judgement();
     one_program();
     one_answer();
     one_deep_place();
@@ -79,34 +76,3 @@ pub fn enough_is_enough()
 {
     more_statements_go_on();
 }
-
-/// A single model file is accepted or has a first violation. Any model files have one first violation at most, and none where they
-/// are accepted; it stands in one of them. They have one model at most.
-pub fn one_judgement()
-    ensures each { (file : SourceFile) → AreAccepted (file ∷ []) ⊎ ((v : Violation) × IsFirstViolation (file ∷ []) v) }
-    ensures apart { (files : List SourceFile) (v : Violation) → AreAccepted files → IsFirstViolation files v → ⊥ }
-    ensures one { (files : List SourceFile) (v w : Violation) → IsFirstViolation files v → IsFirstViolation files w → v ≡ w }
-    ensures among { (files : List SourceFile) (v : Violation) → IsFirstViolation files v → v.place.file < length files }
-    ensures model { (files : List SourceFile) (model other : Model) → HaveModel files model → HaveModel files other → model ≡ other }
-{
-    one_reading();
-    one_file_answer();
-}
-
-/// Words ask for at most one command.
-pub fn one_command()
-    ensures { (words : List (List ℕ)) (command other : Command) → AsksFor words command → AsksFor words other → command ≡ other }
-{}
-
-/// Words of each command, and words of none, as worked out by hand; names of files that may stand together, and such as may not.
-pub fn words_as_worked_out()
-    ensures check { AsksFor (codes "check" ∷ codes "m.pr" ∷ []) (Check (codes "m.pr" ∷ [])) }
-    ensures compile { AsksFor (codes "cc" ∷ codes "m.pr" ∷ []) (Compile (codes "m.pr" ∷ [])) }
-    ensures run { AsksFor (codes "run" ∷ codes "m.pr" ∷ codes "p.c" ∷ codes "s.stim" ∷ codes "--steps" ∷ codes "50" ∷ []) (Run (codes "m.pr" ∷ []) (codes "p.c") (codes "s.stim") 50) }
-    ensures simulate { AsksFor (codes "sim" ∷ codes "m.pr" ∷ codes "s.stim" ∷ []) (Simulate (codes "m.pr" ∷ []) (codes "s.stim") 1000000) }
-    ensures no_stem { IsNoCommand (codes "cc" ∷ codes ".pr" ∷ []) }
-    ensures no_process { IsNoCommand (codes "cc" ∷ codes "d.asn" ∷ []) }
-    ensures in_any_order { AllByRecursion IsModelFile (codes "d.asn" ∷ codes "m.pr" ∷ codes "e.asn1" ∷ []) × HasSdlFile (codes "d.asn" ∷ codes "m.pr" ∷ codes "e.asn1" ∷ [])
-        × AreDifferent (codes "d.asn" ∷ codes "m.pr" ∷ codes "e.asn1" ∷ []) }
-    ensures twice { AreDifferent (codes "m.pr" ∷ codes "d.asn" ∷ codes "m.pr" ∷ []) → ⊥ }
-{}

@@ -3,16 +3,16 @@ ghost use Rattle.std.specs.Prelude.{◌≡◌, ◌≤◌, ◌↔◌, ℕ, List, 
 ghost use Rattle.og_base.specs.Store.{Rose};
 ghost use Rattle.og_tool.specs.Answering.{CommandAnswer, unread_status};
 ghost use Rattle.og_tool.specs.Answers.{IsOutputFor, FailedFor, IsTooLargeFor, Wrote, WroteSome, FailedToRead, IsTooLarge};
-ghost use Rattle.og_tool.specs.Asked.{texts, asked};
-ghost use Rattle.og_tool.specs.Words.{Check, Compile, CanBeTaken, files_of, IsNoCommand, AskForRun};
+ghost use Rattle.og_words.specs.Asked.{texts, asked};
+ghost use Rattle.og_words.specs.Words.{Check, Compile, AreModelFiles, files_of, IsNoCommand, AskForRun};
 
-use crate::command::{Command, command_of};
 use crate::compile::compile;
 use crate::reading::{Judgement, read_model};
 use crate::report::accepted_line;
 use crate::running::{Output, run_program, simulate};
 use crate::status::Status;
 use og_base::{ReadError, Sink, Store, write_all};
+use og_words::{Command, command_of};
 use std::alloc::Global;
 
 /// Carries out the command that the words ask for. `check FILES` writes that the model files are accepted. `cc FILES` writes the C
@@ -72,7 +72,7 @@ fn carry_out<S: Store, K: Sink>(
     store: &mut S,
     out: &mut K,
 ) -> Status
-    requires { CanBeTaken (files_of (asked command)) }
+    requires { AreModelFiles (files_of (asked command)) }
     ensures answer { CommandAnswer result (S.holds store.old) (asked command.entry) (S.faults store.old) (S.faults store.new) (K.written out.old) (K.written out.new) (K.faults out.old) (K.faults out.new) }
     ensures kept { S.holds store.new ≡ S.holds store.old }
     ensures store_counts { (other : List ℕ) → S.faults store.old other ≤ S.faults store.new other }
@@ -104,7 +104,7 @@ fn output_of<S: Store>(
     command: Command<'_>,
     store: &mut S,
 ) -> Result<Output, ReadError>
-    requires { CanBeTaken (files_of (asked command)) }
+    requires { AreModelFiles (files_of (asked command)) }
     ensures output { IfOk result (λ output. IsOutputFor (S.holds store.old) (asked command.entry) output.status output.text.items) }
     ensures fault { IsErrOf result ReadError.Fault → FailedFor (S.holds store.old) (asked command.entry) (S.faults store.old) (S.faults store.new) }
     ensures too_large { IsErrOf result ReadError.TooLarge → IsTooLargeFor (S.holds store.old) (asked command.entry) }
@@ -127,7 +127,7 @@ fn check_files<S: Store>(
     store: &mut S,
     files: &[String],
 ) -> Result<Output, ReadError>
-    requires { CanBeTaken (texts files.now) }
+    requires { AreModelFiles (texts files.now) }
     ensures output { IfOk result (λ output. IsOutputFor (S.holds store.old) (Check (texts files.now)) output.status output.text.items) }
     ensures fault { IsErrOf result ReadError.Fault → FailedFor (S.holds store.old) (Check (texts files.now)) (S.faults store.old) (S.faults store.new) }
     ensures too_large { IsErrOf result ReadError.TooLarge → IsTooLargeFor (S.holds store.old) (Check (texts files.now)) }
@@ -155,7 +155,7 @@ fn compile_files<S: Store>(
     store: &mut S,
     files: &[String],
 ) -> Result<Output, ReadError>
-    requires { CanBeTaken (texts files.now) }
+    requires { AreModelFiles (texts files.now) }
     ensures output { IfOk result (λ output. IsOutputFor (S.holds store.old) (Compile (texts files.now)) output.status output.text.items) }
     ensures fault { IsErrOf result ReadError.Fault → FailedFor (S.holds store.old) (Compile (texts files.now)) (S.faults store.old) (S.faults store.new) }
     ensures too_large { IsErrOf result ReadError.TooLarge → IsTooLargeFor (S.holds store.old) (Compile (texts files.now)) }

@@ -4,12 +4,12 @@ ghost use Rattle.og_base.specs.Store.{HoldsMore};
 ghost use Rattle.og_cstep.specs.Machines.{run_of};
 ghost use Rattle.og_trace.specs.Traces.{run_text, run_outcome};
 ghost use Rattle.og_tool.specs.Answering.{IsReady};
-ghost use Rattle.og_tool.specs.Asked.{texts};
+ghost use Rattle.og_words.specs.Asked.{texts};
 ghost use Rattle.og_tool.specs.Answers.{limit, as_word, IsTrace, IsOutputFor, FailedFor, IsTooLargeFor, RoseAt, status_of as status_for};
 ghost use Rattle.og_tool.specs.Loading.{Runs};
 ghost use Rattle.og_tool.specs.Programs.{bad_program_line as line_of};
-ghost use Rattle.og_tool.specs.Ready.{CanRun};
-ghost use Rattle.og_tool.specs.Words.{Run, Simulate, CanBeTaken};
+ghost use Rattle.og_judge.specs.Ready.{CanRun};
+ghost use Rattle.og_words.specs.Words.{Run, Simulate, AreModelFiles};
 
 use crate::compile::compile;
 use crate::program::{BadProgram, Loaded, load_compiled, load_text, reason_of};
@@ -39,7 +39,7 @@ pub fn run_program<S: Store>(
     stimuli: &str,
     steps: u32,
 ) -> Result<Output, ReadError>
-    requires { CanBeTaken (texts files.now) }
+    requires { AreModelFiles (texts files.now) }
     ensures output { IfOk result (λ output. IsOutputFor (S.holds store.old) (Run (texts files.now) program.now stimuli.now steps) output.status output.text.items) }
     ensures fault { IsErrOf result ReadError.Fault → FailedFor (S.holds store.old) (Run (texts files.now) program.now stimuli.now steps) (S.faults store.old) (S.faults store.new) }
     ensures too_large { IsErrOf result ReadError.TooLarge → IsTooLargeFor (S.holds store.old) (Run (texts files.now) program.now stimuli.now steps) }
@@ -105,7 +105,7 @@ pub fn simulate<S: Store>(
     stimuli: &str,
     steps: u32,
 ) -> Result<Output, ReadError>
-    requires { CanBeTaken (texts files.now) }
+    requires { AreModelFiles (texts files.now) }
     ensures output { IfOk result (λ output. IsOutputFor (S.holds store.old) (Simulate (texts files.now) stimuli.now steps) output.status output.text.items) }
     ensures fault { IsErrOf result ReadError.Fault → FailedFor (S.holds store.old) (Simulate (texts files.now) stimuli.now steps) (S.faults store.old) (S.faults store.new) }
     ensures too_large { IsErrOf result ReadError.TooLarge → IsTooLargeFor (S.holds store.old) (Simulate (texts files.now) stimuli.now steps) }

@@ -3,9 +3,10 @@ use Rattle.og_tool.proofs.output_laws.one_output.Goals as goal
 
 pub returns-clause-run : goal.returns-clause-run
 returns-clause-run c = one_run (record {
-  texts = c.one_reading.ensures.tokens;
-  lexicals = c.one_reading.ensures.violation;
-  apart = c.one_reading.ensures.apart;
+  never_both = c.one_judgement.ensures.apart;
+  one_violation = c.one_judgement.ensures.one;
+  one_model = c.one_judgement.ensures.model;
+  one_tree = c.one_judgement.ensures.tree;
   programs = c.one_program.ensures;
   not_deep = c.one_answer.ensures.not_spelt_and_deep;
   not_bad = c.one_answer.ensures.not_spelt_and_bad;
@@ -16,9 +17,10 @@ returns-clause-run c = one_run (record {
 
 pub returns-clause-check : goal.returns-clause-check
 returns-clause-check c = one_check (record {
-  texts = c.one_reading.ensures.tokens;
-  lexicals = c.one_reading.ensures.violation;
-  apart = c.one_reading.ensures.apart;
+  never_both = c.one_judgement.ensures.apart;
+  one_violation = c.one_judgement.ensures.one;
+  one_model = c.one_judgement.ensures.model;
+  one_tree = c.one_judgement.ensures.tree;
   programs = c.one_program.ensures;
   not_deep = c.one_answer.ensures.not_spelt_and_deep;
   not_bad = c.one_answer.ensures.not_spelt_and_bad;
@@ -29,9 +31,10 @@ returns-clause-check c = one_check (record {
 
 pub returns-clause-compile : goal.returns-clause-compile
 returns-clause-compile c = one_compilation (record {
-  texts = c.one_reading.ensures.tokens;
-  lexicals = c.one_reading.ensures.violation;
-  apart = c.one_reading.ensures.apart;
+  never_both = c.one_judgement.ensures.apart;
+  one_violation = c.one_judgement.ensures.one;
+  one_model = c.one_judgement.ensures.model;
+  one_tree = c.one_judgement.ensures.tree;
   programs = c.one_program.ensures;
   not_deep = c.one_answer.ensures.not_spelt_and_deep;
   not_bad = c.one_answer.ensures.not_spelt_and_bad;
@@ -42,9 +45,10 @@ returns-clause-compile c = one_compilation (record {
 
 pub returns-clause-refusal : goal.returns-clause-refusal
 returns-clause-refusal c = one_refusal (record {
-  texts = c.one_reading.ensures.tokens;
-  lexicals = c.one_reading.ensures.violation;
-  apart = c.one_reading.ensures.apart;
+  never_both = c.one_judgement.ensures.apart;
+  one_violation = c.one_judgement.ensures.one;
+  one_model = c.one_judgement.ensures.model;
+  one_tree = c.one_judgement.ensures.tree;
   programs = c.one_program.ensures;
   not_deep = c.one_answer.ensures.not_spelt_and_deep;
   not_bad = c.one_answer.ensures.not_spelt_and_bad;
@@ -55,9 +59,10 @@ returns-clause-refusal c = one_refusal (record {
 
 pub returns-clause-too_large : goal.returns-clause-too_large
 returns-clause-too_large c = never_too_large (record {
-  texts = c.one_reading.ensures.tokens;
-  lexicals = c.one_reading.ensures.violation;
-  apart = c.one_reading.ensures.apart;
+  never_both = c.one_judgement.ensures.apart;
+  one_violation = c.one_judgement.ensures.one;
+  one_model = c.one_judgement.ensures.model;
+  one_tree = c.one_judgement.ensures.tree;
   programs = c.one_program.ensures;
   not_deep = c.one_answer.ensures.not_spelt_and_deep;
   not_bad = c.one_answer.ensures.not_spelt_and_bad;

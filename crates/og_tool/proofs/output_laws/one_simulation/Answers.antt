@@ -5,9 +5,10 @@ pub returns : goal.returns
 returns c =
     simulation.one_simulation
     (record {
-      texts = c.one_reading.ensures.tokens;
-      lexicals = c.one_reading.ensures.violation;
-      apart = c.one_reading.ensures.apart;
+      never_both = c.one_judgement.ensures.apart;
+      one_violation = c.one_judgement.ensures.one;
+      one_model = c.one_judgement.ensures.model;
+      one_tree = c.one_judgement.ensures.tree;
       programs = c.one_program.ensures;
       not_deep = c.one_answer.ensures.not_spelt_and_deep;
       not_bad = c.one_answer.ensures.not_spelt_and_bad;

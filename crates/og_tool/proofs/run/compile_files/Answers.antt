@@ -1,6 +1,6 @@
 use Rattle.std.proofs.Common.{inr, refl, subst}
 use Rattle.og_tool.specs.declared.reading.Judgement.{Judgement}
-use Rattle.og_tool.specs.Asked.{texts}
+use Rattle.og_words.specs.Asked.{texts}
 use Rattle.og_tool.specs.Answering.{IsReady, TellsModel}
 use Rattle.og_tool.proofs.run.compile_files.Goals as goal
 

@@ -1,7 +1,7 @@
 use Rattle.std.proofs.Common.{sym, subst}
-use Rattle.og_tool.specs.declared.command.Command.{Command}
+use Rattle.og_words.specs.declared.command.Command.{Command}
 use Rattle.og_tool.specs.Answers.{FailedFor, IsTooLargeFor}
-use Rattle.og_tool.specs.Asked.{asked}
+use Rattle.og_words.specs.Asked.{asked}
 use Rattle.og_tool.proofs.run.output_of.Goals as goal
 
 pub returns-in-Run-clause-too_large : goal.returns-in-Run-clause-too_large

@@ -1,5 +1,5 @@
 use Rattle.std.proofs.Common.{map, string_bytes}
-use Rattle.og_tool.specs.Asked.{asked}
+use Rattle.og_words.specs.Asked.{asked}
 use Rattle.og_tool.proofs.RunParts.{stuck_runs}
 use Rattle.og_tool.proofs.run.run_tool.Goals as goal
 

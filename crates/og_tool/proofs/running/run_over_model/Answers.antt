@@ -1,7 +1,7 @@
 use Rattle.std.proofs.Common.{rules, ◌≡◌, List, ℕ, Ok, subst}
 use Rattle.og_base.specs.Store.{HoldsMore}
 use Rattle.og_tool.specs.declared.program.ProgramError.{ProgramError}
-use Rattle.og_tool.specs.Asked.{texts}
+use Rattle.og_words.specs.Asked.{texts}
 use Rattle.og_tool.specs.Answers.{limit, RoseAt}
 use Rattle.og_tool.specs.Loading.{IsLoaded, TellsProgram}
 use Rattle.og_tool.specs.Programs.{IsBadFor, bad_program_line}

@@ -1,8 +1,8 @@
 use Rattle.std.proofs.Common.{Option, subst}
 use Rattle.og_base.specs.Store.{Files}
-use Rattle.og_tool.specs.Asked.{texts}
+use Rattle.og_words.specs.Asked.{texts}
 use Rattle.og_tool.specs.Answers.{IsTooLargeFor}
-use Rattle.og_tool.specs.Words.{Run}
+use Rattle.og_words.specs.Words.{Run}
 use Rattle.og_tool.proofs.RunningParts.{failed_before}
 use Rattle.og_tool.proofs.running.run_program.Goals as goal
 

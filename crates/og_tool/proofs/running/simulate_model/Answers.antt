@@ -1,5 +1,5 @@
 use Rattle.std.proofs.Common.{List, ℕ, sym, subst, inr}
-use Rattle.og_tool.specs.Asked.{texts}
+use Rattle.og_words.specs.Asked.{texts}
 use Rattle.og_tool.specs.Compiled.{IsCompiled}
 use Rattle.og_tool.proofs.RunningParts.{simulation_output}
 use Rattle.og_tool.proofs.running.simulate_model.Goals as goal

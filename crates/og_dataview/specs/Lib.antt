@@ -1,0 +1,12 @@
+pub mod Limits
+pub mod Flattening
+pub mod Scope
+pub mod Following
+pub mod Index
+pub mod Met
+pub mod Ways
+pub mod Violations
+pub mod Exported
+pub mod View
+pub mod ViewExamples
+pub mod Laws

@@ -1,0 +1,10 @@
+pub mod OneByOne
+pub mod Syntax
+pub mod Judgements
+pub mod TreeNames
+pub mod BoundNames
+pub mod TypeNames
+pub mod DataPlaces
+pub mod InFiles
+pub mod Parts
+pub mod Alone

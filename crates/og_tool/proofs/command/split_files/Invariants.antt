@@ -1,8 +1,0 @@
-use Rattle.std.proofs.Common.{take}
-use Rattle.std.specs.List.{AllByRecursion}
-use Rattle.og_tool.specs.Asked.{texts}
-use Rattle.og_tool.specs.Words.{IsModelFile}
-use Rattle.og_tool.proofs.command.split_files.Given as goal
-
-abbrev pub invariant-loop-count : goal.invariant-loop-count
-invariant-loop-count l = AllByRecursion IsModelFile (texts (take l.count l.words))

@@ -1,0 +1,3 @@
+pub mod CommandForms
+pub mod OneCommand
+pub mod WordExamples
