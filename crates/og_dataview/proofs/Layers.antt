@@ -1,6 +1,6 @@
 -- A type is laid out as one layer of it says of its parts, at any depth: the depth by which `nodes_of` recurses changes nothing
 -- once it covers the tree.
-use Rattle.std.proofs.Common.{◌≡◌, ℕ, zero, suc, ◌+◌, ◌≤◌, max, List, [], ◌∷◌, ◌++◌, length, refl, ap, sym, ◌∙◌, le_refl, le_trans, arith}
+use Rattle.std.proofs.Common.{◌≡◌, ℕ, zero, suc, ◌+◌, ◌≤◌, List, [], ◌∷◌, ◌++◌, length, refl, ap, ◌∙◌, le_refl, arith}
 use denote.Param.Weighed.{most}
 use denote.Hole.Carrier
 use Rattle.og_asn1.specs.declared.syntax.TypeTree.{TypeTree, size-TypeTree, size_is-TypeTree}

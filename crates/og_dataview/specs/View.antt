@@ -2,7 +2,7 @@
 -- subset). A type of another form is opaque, and so is one that has an opaque part, that needs itself, or that is more than 64 deep.
 -- Types are numbered by their depth, those of one depth as they stand in the text, opaque ones behind all others; a reference
 -- without a bracket has the number of the type that it names.
-use Rattle.std.specs.Prelude.{ℕ, zero, suc, ◌+◌, Bool, true, false, not, ◌&&◌, ◌||◌, ◌==◌, List, [], ◌∷◌, ◌++◌, map, length, Option, Some, None, is_some, is_none, unwrap_or, slice_get, ℤ, pos, nat_abs, int_le, filter, flat_map, if◌then◌else◌}
+use Rattle.std.specs.Prelude.{ℕ, zero, suc, Bool, true, false, not, ◌&&◌, ◌||◌, ◌==◌, List, [], ◌∷◌, ◌++◌, map, length, Option, Some, None, is_some, is_none, unwrap_or, slice_get, ℤ, pos, nat_abs, int_le, filter, flat_map, if◌then◌else◌}
 use Rattle.std.specs.List.{list_all, range_with_len, position_or_len, enumerate_from}
 use Rattle.og_names.specs.declared.NameId.{NameId}
 use Rattle.og_names.specs.Folding.{place_of, with_name}

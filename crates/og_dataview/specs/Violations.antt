@@ -1,7 +1,7 @@
 -- The rules on names that modules of ASN.1 keep (after X.680 clauses 12, 13, 20, 25 and 29, where names are compared as this project's
 -- own): for each rule, the violations in the modules of all files. N2 and N7: names of one list, each against those before it. N1 and
 -- N3: names that are used, each looked for where names of its kind are declared.
-use Rattle.std.specs.Prelude.{ℕ, Bool, true, false, ◌&&◌, ◌||◌, List, [], ◌∷◌, ◌++◌, map, Option, Some, None, is_some, ℤ, filter, flat_map, if◌then◌else◌}
+use Rattle.std.specs.Prelude.{ℕ, Bool, false, ◌||◌, List, [], ◌∷◌, ◌++◌, map, Option, Some, None, ℤ, filter, flat_map, if◌then◌else◌}
 use Rattle.std.specs.List.{list_any}
 use Rattle.std.specs.Str.{bytes_eq}
 use Rattle.std.specs.Ordering.{int_eq}

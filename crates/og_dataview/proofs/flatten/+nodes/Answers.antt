@@ -1,4 +1,4 @@
-use Rattle.std.proofs.Common.{◌≡◌, ◌++◌, ◌-◌, ◌∙◌, length, ap, sym, length-append}
+use Rattle.std.proofs.Common.{◌++◌, ◌-◌, ◌∙◌, length, ap, sym, length-append}
 use Rattle.og_dataview.specs.Flattening.{nodes_of}
 use Rattle.og_dataview.proofs.Layers.{nodes_layer}
 use Rattle.og_dataview.proofs.flatten.+nodes.Goals as goal
