@@ -1,5 +1,3 @@
-pub mod Layers
-pub mod Listing
 pub mod Tables
 pub mod Short
 pub mod Indexing

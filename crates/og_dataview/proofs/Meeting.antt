@@ -10,7 +10,7 @@ use Rattle.og_base.specs.Order.{first_from}
 use Rattle.og_names.specs.Folding.{place_of, with_name}
 use Rattle.og_names.proofs.Loops.{Left, left_first, left_more, left_all}
 use Rattle.og_asn1.specs.declared.syntax.Name.{Name}
-use Rattle.og_dataview.specs.declared.flat.Enumerator.{Enumerator}
+use Rattle.og_flat.specs.declared.flat.Enumerator.{Enumerator}
 use Rattle.og_dataview.specs.declared.repeats.Met.{Met}
 use Rattle.og_dataview.specs.Scope.{key}
 use Rattle.og_dataview.specs.Violations.{violated, violated_if, repeated, repeated_behind, repeated_names, given, given_again, given_behind, repeated_numbers}

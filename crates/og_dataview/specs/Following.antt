@@ -5,21 +5,21 @@ use Rattle.std.specs.Prelude.{ℕ, zero, suc, Bool, true, false, ◌&&◌, lengt
 use Rattle.std.specs.Option.{option_map, option_and_then}
 use Rattle.og_types.specs.Table.{in_64_bits}
 use Rattle.og_dataview.specs.declared.numbers.Interval.{Interval}
-use Rattle.og_dataview.specs.declared.flat.Flat.{Flat}
-use Rattle.og_dataview.specs.declared.flat.Bound.{Bound}
-use Rattle.og_dataview.specs.declared.flat.Bound.TheVariants as bound
-use Rattle.og_dataview.specs.declared.flat.Range.{Range}
-use Rattle.og_dataview.specs.declared.flat.Limits.{Limits}
-use Rattle.og_dataview.specs.declared.flat.Limits.TheVariants as limits
-use Rattle.og_dataview.specs.declared.flat.Written.{Written}
-use Rattle.og_dataview.specs.declared.flat.Node.{Node}
-use Rattle.og_dataview.specs.declared.flat.Node.TheVariants as node
-use Rattle.og_dataview.specs.declared.flat.TypeNode.{TypeNode}
-use Rattle.og_dataview.specs.declared.flat.ConstantNode.{ConstantNode}
-use Rattle.og_dataview.specs.declared.flat.ConstantValue.{ConstantValue}
-use Rattle.og_dataview.specs.declared.flat.ConstantValue.TheVariants as value
+use Rattle.og_flat.specs.declared.flat.Flat.{Flat}
+use Rattle.og_flat.specs.declared.flat.Bound.{Bound}
+use Rattle.og_flat.specs.declared.flat.Bound.TheVariants as bound
+use Rattle.og_flat.specs.declared.flat.Range.{Range}
+use Rattle.og_flat.specs.declared.flat.Limits.{Limits}
+use Rattle.og_flat.specs.declared.flat.Limits.TheVariants as limits
+use Rattle.og_flat.specs.declared.flat.Written.{Written}
+use Rattle.og_flat.specs.declared.flat.Node.{Node}
+use Rattle.og_flat.specs.declared.flat.Node.TheVariants as node
+use Rattle.og_flat.specs.declared.flat.TypeNode.{TypeNode}
+use Rattle.og_flat.specs.declared.flat.ConstantNode.{ConstantNode}
+use Rattle.og_flat.specs.declared.flat.ConstantValue.{ConstantValue}
+use Rattle.og_flat.specs.declared.flat.ConstantValue.TheVariants as value
 use Rattle.og_asn1.specs.declared.syntax.Name.{Name}
-use Rattle.og_dataview.specs.Limits.{signed}
+use Rattle.og_flat.specs.Limits.{signed}
 use Rattle.og_dataview.specs.Scope.{find_type, find_constant, is_declared_type, is_integer}
 
 -- ---- ways

@@ -1,5 +1,3 @@
-pub mod Limits
-pub mod Flattening
 pub mod Scope
 pub mod Following
 pub mod Index

@@ -1,15 +1,11 @@
 //! The data that modules of ASN.1 declare (X.680), and the rules on names that they keep.
 #![tactic(auto)]
 
-mod copy;
 mod counting;
-mod flat;
-mod flatten;
 mod imports;
 mod index;
 mod known;
 pub mod laws;
-mod limits;
 mod notes;
 mod numbers;
 mod repeats;

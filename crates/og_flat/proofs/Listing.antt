@@ -8,10 +8,10 @@ use Rattle.og_asn1.specs.declared.syntax.BaseTree.TheOpen.{CompTree-F, Part, Ext
 use Rattle.og_asn1.specs.declared.syntax.OfTree.{OfTree}
 use Rattle.og_asn1.specs.declared.syntax.CompTree.{CompTree, out-CompTree}
 use Rattle.og_asn1.specs.declared.syntax.EnumTree.{EnumTree}
-use Rattle.og_dataview.specs.declared.flat.Node.{Node}
-use Rattle.og_dataview.specs.declared.flat.PartNode.{PartNode}
-use Rattle.og_dataview.specs.declared.flat.Enumerator.{Enumerator}
-use Rattle.og_dataview.specs.Flattening.{Parts, no_parts, last_of, default_of, parts_by, parts_of, one_part, enumerator_of, enumerators_of}
+use Rattle.og_flat.specs.declared.flat.Node.{Node}
+use Rattle.og_flat.specs.declared.flat.PartNode.{PartNode}
+use Rattle.og_flat.specs.declared.flat.Enumerator.{Enumerator}
+use Rattle.og_flat.specs.Flattening.{Parts, no_parts, last_of, default_of, parts_by, parts_of, one_part, enumerator_of, enumerators_of}
 
 abbrev joined : Parts → Parts → Parts
 joined a b = record { nodes = a.nodes ++ b.nodes; parts = a.parts ++ b.parts; is_plain = a.is_plain && b.is_plain }

@@ -1,15 +1,15 @@
 -- Modules laid out flat: the types of all modules in one list, each behind the types in it, and the types and constants that the
 -- modules declare, in the order of the text. Tags are left out, since they change nothing.
 use Rattle.std.specs.Prelude.{ℕ, zero, suc, ◌+◌, ◌-◌, Bool, true, false, ◌&&◌, ◌||◌, List, [], ◌∷◌, ◌++◌, length, Option, Some, None, is_none}
-use Rattle.og_dataview.specs.declared.flat.Enumerator.{Enumerator}
-use Rattle.og_dataview.specs.declared.flat.Written.{Written}
-use Rattle.og_dataview.specs.declared.flat.PartNode.{PartNode}
-use Rattle.og_dataview.specs.declared.flat.Node.{Node}
-use Rattle.og_dataview.specs.declared.flat.Node.TheVariants as node
-use Rattle.og_dataview.specs.declared.flat.Limits.TheVariants as limits
-use Rattle.og_dataview.specs.declared.flat.ConstantValue.{ConstantValue}
-use Rattle.og_dataview.specs.declared.flat.ConstantValue.TheVariants as value
-use Rattle.og_dataview.specs.declared.flat.Flat.{Flat}
+use Rattle.og_flat.specs.declared.flat.Enumerator.{Enumerator}
+use Rattle.og_flat.specs.declared.flat.Written.{Written}
+use Rattle.og_flat.specs.declared.flat.PartNode.{PartNode}
+use Rattle.og_flat.specs.declared.flat.Node.{Node}
+use Rattle.og_flat.specs.declared.flat.Node.TheVariants as node
+use Rattle.og_flat.specs.declared.flat.Limits.TheVariants as limits
+use Rattle.og_flat.specs.declared.flat.ConstantValue.{ConstantValue}
+use Rattle.og_flat.specs.declared.flat.ConstantValue.TheVariants as value
+use Rattle.og_flat.specs.declared.flat.Flat.{Flat}
 use Rattle.og_asn1.specs.declared.syntax.Name.{Name}
 use Rattle.og_asn1.specs.declared.syntax.ModuleTree.{ModuleTree}
 use Rattle.og_asn1.specs.declared.syntax.AssignmentTree.{AssignmentTree}
@@ -28,7 +28,7 @@ use Rattle.og_asn1.specs.declared.syntax.PresenceTree.TheVariants as presence
 use Rattle.og_asn1.specs.declared.syntax.ValueTree.{ValueTree}
 use Rattle.og_asn1.specs.declared.syntax.ValueNode.{ValueNode, ValueNode-F, out-ValueNode}
 use Rattle.og_asn1.specs.declared.syntax.ValueNode.TheOpen as written
-use Rattle.og_dataview.specs.Limits.{limits_of, limits_of_size}
+use Rattle.og_flat.specs.Limits.{limits_of, limits_of_size}
 
 -- ---- enumerators
 

@@ -8,12 +8,12 @@ use Rattle.og_lexer.specs.declared.AsnMark.TheVariants as mark
 use Rattle.og_lexer.specs.declared.Spanned.{Spanned}
 use Rattle.og_lexer.specs.declared.Token.{Token}
 use Rattle.og_lexer.specs.declared.Token.TheVariants as token
-use Rattle.og_dataview.specs.declared.limits as code
-use Rattle.og_dataview.specs.declared.flat.Bound.{Bound}
-use Rattle.og_dataview.specs.declared.flat.Bound.TheVariants as bound
-use Rattle.og_dataview.specs.declared.flat.Range.{Range}
-use Rattle.og_dataview.specs.declared.flat.Limits.{Limits}
-use Rattle.og_dataview.specs.declared.flat.Limits.TheVariants as limits
+use Rattle.og_flat.specs.declared.limits as code
+use Rattle.og_flat.specs.declared.flat.Bound.{Bound}
+use Rattle.og_flat.specs.declared.flat.Bound.TheVariants as bound
+use Rattle.og_flat.specs.declared.flat.Range.{Range}
+use Rattle.og_flat.specs.declared.flat.Limits.{Limits}
+use Rattle.og_flat.specs.declared.flat.Limits.TheVariants as limits
 use Rattle.og_asn1.specs.declared.syntax.RunTree.{RunTree}
 use Rattle.og_asn1.specs.declared.syntax.SizeTree.{SizeTree}
 use Rattle.og_asn1.specs.declared.syntax.SizeTree.TheVariants as size
