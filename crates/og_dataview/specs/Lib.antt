@@ -1,6 +1,7 @@
 pub mod Scope
 pub mod Following
 pub mod Index
+pub mod Naming
 pub mod Met
 pub mod Ways
 pub mod Violations
