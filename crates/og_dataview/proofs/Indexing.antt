@@ -1,11 +1,11 @@
 -- An index with one name more.
-use Rattle.std.proofs.Common.{◌≡◌, ℕ, suc, zero, ◌+◌, ◌≤◌, ◌<◌, Bool, true, false, cond, List, [], ◌∷◌, ◌++◌, length, slice_get, Option, Some, None, is_some, refl, sym, ap, ◌∙◌, arith, if◌then◌else◌, ◌⊎◌, inl, inr, IsTrue, subst, true≢false, length-append, ◌≢◌}
+use Rattle.std.proofs.Common.{◌≡◌, ℕ, suc, zero, ◌<◌, Bool, true, false, cond, List, [], ◌∷◌, ◌++◌, length, slice_get, Option, Some, None, refl, sym, ap, ◌∙◌, arith, ◌⊎◌, inl, inr, length-append, ◌≢◌}
 use Rattle.std.specs.Option.{option_map, option_and_then}
 use Rattle.std.specs.Str.{bytes_eq}
 use Rattle.std.specs.Cmp.Lexicographic.{bytes_decides}
 use Rattle.std.proofs.lemmas.Option.{slice_get_within}
 use Rattle.og_names.specs.Folding.{place_of, with_name}
-use Rattle.og_names.proofs.Places.{place_leads_back, place_kept, place_at_end, placed, with_known, with_new}
+use Rattle.og_names.proofs.Places.{place_leads_back, place_at_end, placed, with_known, with_new}
 use Rattle.og_dataview.specs.declared.index.Index.{Index}
 use Rattle.og_dataview.specs.Index.{IsIndex}
 

@@ -1,7 +1,7 @@
-pub mod Layers
-pub mod Listing
 pub mod Tables
 pub mod Short
+pub mod Adding
+pub mod NameLayers
 pub mod Indexing
 pub mod Noting
 pub mod Meeting

@@ -1,22 +1,20 @@
 -- Loops over names and numbers that were met before: what the sets keep, and which violations are noted.
-use Rattle.std.proofs.Common.{◌≡◌, ℕ, ◌+◌, ◌≤◌, ◌<◌, Bool, true, false, not, ◌||◌, List, [], ◌∷◌, ◌++◌, length, get_or, map, drop, take, ℤ, Option, Some, None, is_some, refl, sym, ap, ◌∙◌, cond, if◌then◌else◌, append_assoc, ◌⊎◌, inl, inr}
+use Rattle.std.proofs.Common.{◌≡◌, ℕ, ◌+◌, ◌≤◌, ◌<◌, Bool, true, false, not, ◌||◌, List, [], ◌∷◌, ◌++◌, length, get_or, map, ℤ, Option, Some, None, is_some, refl, sym, ap, ◌∙◌, if◌then◌else◌, ◌⊎◌, inl, inr}
 use Rattle.std.specs.List.{list_any}
 use Rattle.std.specs.Str.{bytes_eq}
 use Rattle.std.specs.Ordering.{int_eq}
 use Rattle.std.proofs.lemmas.Bool.Decides.{Decides-int_eq}
 use Rattle.og_base.specs.declared.Violation.{Violation}
 use Rattle.og_base.specs.declared.Rule.TheVariants.{N2, N7}
-use Rattle.og_base.specs.Order.{sooner, first_from}
+use Rattle.og_base.specs.Order.{first_from}
 use Rattle.og_names.specs.Folding.{place_of, with_name}
 use Rattle.og_names.proofs.Loops.{Left, left_first, left_more, left_all}
 use Rattle.og_asn1.specs.declared.syntax.Name.{Name}
-use Rattle.og_dataview.specs.declared.flat.Enumerator.{Enumerator}
-use Rattle.og_dataview.specs.declared.flat.Written.{Written}
+use Rattle.og_flat.specs.declared.flat.Enumerator.{Enumerator}
 use Rattle.og_dataview.specs.declared.repeats.Met.{Met}
 use Rattle.og_dataview.specs.Scope.{key}
-use Rattle.og_dataview.specs.Following.{as_number}
-use Rattle.og_dataview.specs.Violations.{violated, violated_if, repeated, repeated_behind, repeated_names, is_spelt_as, folds_as, is_given, given, given_again, given_behind, repeated_numbers}
-use Rattle.og_dataview.specs.Met.{has_word, is_spelt, is_folded, IsMet, AreMet}
+use Rattle.og_dataview.specs.Violations.{violated, violated_if, repeated, repeated_behind, repeated_names, given, given_again, given_behind, repeated_numbers}
+use Rattle.og_dataview.specs.Met.{has_word, IsMet, AreMet}
 use Rattle.og_dataview.proofs.Indexing.{at_end, place_more}
 use Rattle.og_names.proofs.Places.{placed, with_known, with_new}
 use Rattle.std.specs.Cmp.Lexicographic.{bytes_decides}

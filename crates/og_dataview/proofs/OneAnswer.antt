@@ -1,7 +1,7 @@
 -- A list of violations is empty, or has a first one, which is one of them.
-use Rattle.std.proofs.Common.{◌≡◌, ℕ, zero, suc, ◌<◌, Bool, true, false, if◌then◌else◌, List, [], ◌∷◌, length, get_or, Option, Some, None, Contains, refl, sym, ap, subst, ◌∙◌, ◌⊎◌, inl, inr, arith}
+use Rattle.std.proofs.Common.{◌≡◌, ℕ, zero, suc, ◌<◌, Bool, true, false, if◌then◌else◌, List, [], ◌∷◌, length, get_or, Some, None, Contains, refl, ap, ◌∙◌, ◌⊎◌, inl, inr, arith}
 use Rattle.og_base.specs.declared.Violation.{Violation}
-use Rattle.og_base.specs.Order.{comes_before, sooner, first_from, first_of}
+use Rattle.og_base.specs.Order.{comes_before, first_from, first_of}
 
 later_there : (x v : Violation) (xs : List Violation) → Contains xs v → Contains (x ∷ xs) v
 later_there x v xs there = (suc there.0, omega (arith, there.1), there.2)

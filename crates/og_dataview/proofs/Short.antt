@@ -1,5 +1,5 @@
 -- A name is short.
-use Rattle.std.proofs.Common.{◌≡◌, ℕ, ◌+◌, ◌≤◌, ◌<◌, Bool, true, false, ◌&&◌, List, [], ◌∷◌, length, nat_lt, arith, IsTrue}
+use Rattle.std.proofs.Common.{ℕ, ◌≤◌, Bool, true, false, ◌&&◌, List, [], ◌∷◌, length, nat_lt, arith, IsTrue}
 use Rattle.std.proofs.lemmas.Bool.{ltb-true}
 use Rattle.og_lexer.specs.AsnPieces.{is_asn_name}
 use Rattle.og_asn1.specs.declared.syntax.Name.{Name}

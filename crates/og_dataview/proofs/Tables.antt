@@ -1,7 +1,9 @@
 -- Lists that keep what a function says of each place, and where ways kept so lead.
-use Rattle.std.proofs.Common.{◌≡◌, ℕ, zero, suc, ◌+◌, ◌*◌, ◌≤◌, ◌<◌, List, [], ◌∷◌, ◌++◌, length, get_or, slice_get, Option, Some, None, unwrap_or, refl, sym, ap, ◌∙◌, arith, length-append, ◌⊎◌, inl, inr, map}
+use Rattle.std.proofs.Common.{◌≡◌, ℕ, zero, suc, ◌+◌, ◌≤◌, ◌<◌, List, [], ◌∷◌, ◌++◌, length, slice_get, Option, Some, None, unwrap_or, refl, sym, ap, ◌∙◌, arith, length-append, ◌⊎◌, inl, inr, map}
 use Rattle.std.specs.Option.{option_map}
 use Rattle.std.proofs.lemmas.Option.{slice_get-map}
+use Rattle.std.specs.List.{range_with_len}
+use Rattle.std.proofs.lemmas.List.FromFn.{map-range_with_len_more}
 use Rattle.og_dataview.specs.Following.{walk}
 use Rattle.og_dataview.specs.Ways.{step_in, Leads}
 
@@ -106,6 +108,10 @@ goes_then first second list p is same =
     by (Some q) e = refl
     by None e = sym (ap (λ o. unwrap_or o p) (none_behind second p (omega (arith, behind first p e, same))))
 
+-- a list by places with one place more
+pub mapped_more : {X : Type 0} (f : ℕ → X) (xs ys : List X) (n : ℕ) (x : X) → ys ≡ xs ++ x ∷ [] → x ≡ f n → xs ≡ map f (range_with_len 0 n) → ys ≡ map f (range_with_len 0 (n + 1))
+mapped_more f xs ys n x e is before = e ∙ (λ i. before i ++ is i ∷ []) ∙ sym (map-range_with_len_more f 0 n n (omega arith))
+
 pub ruleset walks = (walks_none, walks_even, walks_odd, leads_by)
 
-pub ruleset tables = (tabulated_none, tabulated_more, steps_are, stands, goes_then)
+pub ruleset tables = (tabulated_none, tabulated_more, steps_are, stands, goes_then, mapped_more)

@@ -5,21 +5,21 @@ use Rattle.std.specs.Prelude.{ℕ, zero, suc, Bool, true, false, ◌&&◌, lengt
 use Rattle.std.specs.Option.{option_map, option_and_then}
 use Rattle.og_types.specs.Table.{in_64_bits}
 use Rattle.og_dataview.specs.declared.numbers.Interval.{Interval}
-use Rattle.og_dataview.specs.declared.flat.Flat.{Flat}
-use Rattle.og_dataview.specs.declared.flat.Bound.{Bound}
-use Rattle.og_dataview.specs.declared.flat.Bound.TheVariants as bound
-use Rattle.og_dataview.specs.declared.flat.Range.{Range}
-use Rattle.og_dataview.specs.declared.flat.Limits.{Limits}
-use Rattle.og_dataview.specs.declared.flat.Limits.TheVariants as limits
-use Rattle.og_dataview.specs.declared.flat.Written.{Written}
-use Rattle.og_dataview.specs.declared.flat.Node.{Node}
-use Rattle.og_dataview.specs.declared.flat.Node.TheVariants as node
-use Rattle.og_dataview.specs.declared.flat.TypeNode.{TypeNode}
-use Rattle.og_dataview.specs.declared.flat.ConstantNode.{ConstantNode}
-use Rattle.og_dataview.specs.declared.flat.ConstantValue.{ConstantValue}
-use Rattle.og_dataview.specs.declared.flat.ConstantValue.TheVariants as value
+use Rattle.og_flat.specs.declared.flat.Flat.{Flat}
+use Rattle.og_flat.specs.declared.flat.Bound.{Bound}
+use Rattle.og_flat.specs.declared.flat.Bound.TheVariants as bound
+use Rattle.og_flat.specs.declared.flat.Range.{Range}
+use Rattle.og_flat.specs.declared.flat.Limits.{Limits}
+use Rattle.og_flat.specs.declared.flat.Limits.TheVariants as limits
+use Rattle.og_flat.specs.declared.flat.Written.{Written}
+use Rattle.og_flat.specs.declared.flat.Node.{Node}
+use Rattle.og_flat.specs.declared.flat.Node.TheVariants as node
+use Rattle.og_flat.specs.declared.flat.TypeNode.{TypeNode}
+use Rattle.og_flat.specs.declared.flat.ConstantNode.{ConstantNode}
+use Rattle.og_flat.specs.declared.flat.ConstantValue.{ConstantValue}
+use Rattle.og_flat.specs.declared.flat.ConstantValue.TheVariants as value
 use Rattle.og_asn1.specs.declared.syntax.Name.{Name}
-use Rattle.og_dataview.specs.Limits.{signed}
+use Rattle.og_flat.specs.Limits.{signed}
 use Rattle.og_dataview.specs.Scope.{find_type, find_constant, is_declared_type, is_integer}
 
 -- ---- ways
@@ -64,14 +64,14 @@ is_integer_type flat p = is_integer_node flat (slice_get flat.nodes (end_of flat
 -- ---- constants
 
 -- a constant whose type is INTEGER and whose value is a constant leads to that one
+abbrev pub constant_given : Flat → ℕ → ConstantValue → ℕ
+constant_given flat i (value.Named name) = unwrap_or (find_constant flat name) i
+constant_given flat i (value.Number number) = i
+constant_given flat i value.Other = i
+
 abbrev pub constant_after : Flat → ℕ → Option ConstantNode → ℕ
 constant_after flat i None = i
-constant_after flat i (Some c) = if is_integer_type flat c.node then by c.value else i
-  where
-    by : ConstantValue → ℕ
-    by (value.Named name) = unwrap_or (find_constant flat name) i
-    by (value.Number number) = i
-    by value.Other = i
+constant_after flat i (Some c) = if is_integer_type flat c.node then constant_given flat i c.value else i
 
 abbrev pub next_constant : Flat → ℕ → ℕ
 next_constant flat i = constant_after flat i (slice_get flat.constants i)
@@ -86,14 +86,14 @@ as_number n = signed n.is_negative n.digits
 abbrev pub within_64_bits : ℤ → Option ℤ
 within_64_bits z = if in_64_bits z then Some z else None
 
+abbrev pub given_number : ConstantValue → Option ℤ
+given_number (value.Number number) = within_64_bits (as_number number)
+given_number (value.Named name) = None
+given_number value.Other = None
+
 abbrev pub own_number : Flat → Option ConstantNode → Option ℤ
 own_number flat None = None
-own_number flat (Some c) = if is_integer_type flat c.node then by c.value else None
-  where
-    by : ConstantValue → Option ℤ
-    by (value.Number number) = within_64_bits (as_number number)
-    by (value.Named name) = None
-    by value.Other = None
+own_number flat (Some c) = if is_integer_type flat c.node then given_number c.value else None
 
 -- the number of a constant, where it has one
 abbrev pub number_of : Flat → ℕ → Option ℤ

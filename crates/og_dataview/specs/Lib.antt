@@ -1,8 +1,7 @@
-pub mod Limits
-pub mod Flattening
 pub mod Scope
 pub mod Following
 pub mod Index
+pub mod Naming
 pub mod Met
 pub mod Ways
 pub mod Violations

@@ -5,9 +5,9 @@ use Rattle.std.specs.Prelude.{ℕ, Bool, ◌||◌, List, [], ◌∷◌, map, Opt
 use Rattle.std.specs.List.{list_any}
 use Rattle.std.specs.Str.{bytes_eq}
 use Rattle.og_names.specs.Folding.{folded, place_of}
-use Rattle.og_dataview.specs.declared.flat.Flat.{Flat}
-use Rattle.og_dataview.specs.declared.flat.TypeNode.{TypeNode}
-use Rattle.og_dataview.specs.declared.flat.ConstantNode.{ConstantNode}
+use Rattle.og_flat.specs.declared.flat.Flat.{Flat}
+use Rattle.og_flat.specs.declared.flat.TypeNode.{TypeNode}
+use Rattle.og_flat.specs.declared.flat.ConstantNode.{ConstantNode}
 use Rattle.og_asn1.specs.declared.syntax.Name.{Name}
 
 -- the form in which a name is compared

@@ -2,7 +2,7 @@
 -- subset). A type of another form is opaque, and so is one that has an opaque part, that needs itself, or that is more than 64 deep.
 -- Types are numbered by their depth, those of one depth as they stand in the text, opaque ones behind all others; a reference
 -- without a bracket has the number of the type that it names.
-use Rattle.std.specs.Prelude.{ℕ, zero, suc, ◌+◌, Bool, true, false, not, ◌&&◌, ◌||◌, ◌==◌, List, [], ◌∷◌, ◌++◌, map, length, Option, Some, None, is_some, is_none, unwrap_or, slice_get, ℤ, pos, nat_abs, int_le, filter, flat_map, if◌then◌else◌}
+use Rattle.std.specs.Prelude.{ℕ, zero, suc, Bool, true, false, not, ◌&&◌, ◌||◌, ◌==◌, List, [], ◌∷◌, ◌++◌, map, length, Option, Some, None, is_some, is_none, unwrap_or, slice_get, ℤ, pos, nat_abs, int_le, filter, flat_map, if◌then◌else◌}
 use Rattle.std.specs.List.{list_all, range_with_len, position_or_len, enumerate_from}
 use Rattle.og_names.specs.declared.NameId.{NameId}
 use Rattle.og_names.specs.Folding.{place_of, with_name}
@@ -11,16 +11,16 @@ use Rattle.og_types.specs.declared.Part.{Part}
 use Rattle.og_types.specs.declared.Sort.{Sort}
 use Rattle.og_types.specs.declared.Sort.TheVariants as sort
 use Rattle.og_types.specs.Table.{in_64_bits, is_empty}
-use Rattle.og_dataview.specs.declared.flat.Limits.{Limits}
-use Rattle.og_dataview.specs.declared.flat.Limits.TheVariants as limits
-use Rattle.og_dataview.specs.declared.flat.Enumerator.{Enumerator}
-use Rattle.og_dataview.specs.declared.flat.Written.{Written}
-use Rattle.og_dataview.specs.declared.flat.PartNode.{PartNode}
-use Rattle.og_dataview.specs.declared.flat.Node.{Node}
-use Rattle.og_dataview.specs.declared.flat.Node.TheVariants as node
-use Rattle.og_dataview.specs.declared.flat.TypeNode.{TypeNode}
-use Rattle.og_dataview.specs.declared.flat.ConstantNode.{ConstantNode}
-use Rattle.og_dataview.specs.declared.flat.Flat.{Flat}
+use Rattle.og_flat.specs.declared.flat.Limits.{Limits}
+use Rattle.og_flat.specs.declared.flat.Limits.TheVariants as limits
+use Rattle.og_flat.specs.declared.flat.Enumerator.{Enumerator}
+use Rattle.og_flat.specs.declared.flat.Written.{Written}
+use Rattle.og_flat.specs.declared.flat.PartNode.{PartNode}
+use Rattle.og_flat.specs.declared.flat.Node.{Node}
+use Rattle.og_flat.specs.declared.flat.Node.TheVariants as node
+use Rattle.og_flat.specs.declared.flat.TypeNode.{TypeNode}
+use Rattle.og_flat.specs.declared.flat.ConstantNode.{ConstantNode}
+use Rattle.og_flat.specs.declared.flat.Flat.{Flat}
 use Rattle.og_dataview.specs.declared.numbers.Interval.{Interval}
 use Rattle.og_dataview.specs.declared.view.NamedType.{NamedType}
 use Rattle.og_dataview.specs.declared.view.Constant.{Constant}
@@ -35,7 +35,7 @@ use Rattle.og_asn1.specs.declared.syntax.BaseTree.TheOpen as base
 use Rattle.og_asn1.specs.declared.syntax.BaseTree.TheOpen.{CompTree-F}
 use Rattle.og_asn1.specs.declared.syntax.OfTree.{OfTree, out-OfTree}
 use Rattle.og_asn1.specs.declared.syntax.CompTree.{CompTree, out-CompTree}
-use Rattle.og_dataview.specs.Flattening.{enumerators_of, flat_of}
+use Rattle.og_flat.specs.Flattening.{enumerators_of, flat_of}
 use Rattle.og_dataview.specs.Scope.{key, find_type, is_boolean}
 use Rattle.og_dataview.specs.Following.{walk, node_of, as_number, bounds, interval_of, number_of}
 use Rattle.og_dataview.specs.Violations.{given, is_given}

@@ -1,40 +1,31 @@
 -- Worked examples of the data view (X.680 clauses 18 to 20, 25, 26, 29 and 49): modules with what they declare, or with the
 -- violation that is told. The n-th name of a text stands in column n.
-use Rattle.std.specs.Prelude.{◌≡◌, ℕ, Bool, true, false, List, [], ◌∷◌, ◌++◌, Option, Some, None, pos, negsuc, codes}
+use Rattle.std.specs.Prelude.{◌≡◌, ℕ, Bool, true, false, List, [], ◌∷◌, Some, None, pos, negsuc, codes}
 use Rattle.og_base.specs.declared.Place.{Place}
 use Rattle.og_base.specs.declared.Rule.{Rule}
 use Rattle.og_base.specs.declared.Rule.TheVariants.{N1, N2, N3, N7}
-use Rattle.og_base.specs.declared.Violation.{Violation}
 use Rattle.og_names.specs.declared.NameId.{NameId}
 use Rattle.og_types.specs.declared.TypeId.{TypeId}
 use Rattle.og_types.specs.declared.Part.{Part}
-use Rattle.og_types.specs.declared.Sort.{Sort}
 use Rattle.og_types.specs.declared.Sort.TheVariants as sort
-use Rattle.og_lexer.specs.Bytes.{class_of}
-use Rattle.og_lexer.specs.declared.AsnKeyword.TheVariants.{Size}
-use Rattle.og_lexer.specs.declared.AsnMark.TheVariants.{Range, Hyphen, LeftParenthesis, RightParenthesis}
+use Rattle.og_lexer.specs.declared.AsnMark.TheVariants.{Range, Hyphen}
 use Rattle.og_lexer.specs.declared.Spanned.{Spanned}
 use Rattle.og_lexer.specs.declared.Token.{Token}
 use Rattle.og_lexer.specs.declared.Token.TheVariants as token
 use Rattle.og_asn1.specs.declared.syntax.Name.{Name}
 use Rattle.og_asn1.specs.declared.syntax.ModuleTree.{ModuleTree}
-use Rattle.og_asn1.specs.declared.syntax.ImportsTree.{ImportsTree}
-use Rattle.og_asn1.specs.declared.syntax.ImportTree.{ImportTree}
 use Rattle.og_asn1.specs.declared.syntax.SymbolTree.{SymbolTree}
 use Rattle.og_asn1.specs.declared.syntax.SymbolTree.TheVariants as symbol
 use Rattle.og_asn1.specs.declared.syntax.AssignmentTree.{AssignmentTree}
 use Rattle.og_asn1.specs.declared.syntax.AssignmentTree.TheVariants as assignment
 use Rattle.og_asn1.specs.declared.syntax.TypeTree.{TypeTree}
-use Rattle.og_asn1.specs.declared.syntax.BaseTree.{BaseTree, Integer, Boolean, Reference, Enumerated, Choice, Sequence, SequenceOf, SetOf, Real}
-use Rattle.og_asn1.specs.declared.syntax.OfTree.{OfTree, roll-OfTree}
-use Rattle.og_asn1.specs.declared.syntax.SizeTree.{SizeTree}
+use Rattle.og_asn1.specs.declared.syntax.BaseTree.{BaseTree, Integer, Boolean, Reference, Enumerated, Choice, Sequence, SequenceOf, Real}
+use Rattle.og_asn1.specs.declared.syntax.OfTree.{roll-OfTree}
 use Rattle.og_asn1.specs.declared.syntax.SizeTree.TheVariants as size
 use Rattle.og_asn1.specs.declared.syntax.EnumTree.{EnumTree}
 use Rattle.og_asn1.specs.declared.syntax.EnumTree.TheVariants as item
-use Rattle.og_asn1.specs.declared.syntax.SignedTree.{SignedTree}
 use Rattle.og_asn1.specs.declared.syntax.CompTree.{CompTree}
 use Rattle.og_asn1.specs.declared.syntax.CompTree as comp
-use Rattle.og_asn1.specs.declared.syntax.PresenceTree.{PresenceTree}
 use Rattle.og_asn1.specs.declared.syntax.PresenceTree.TheVariants as presence
 use Rattle.og_asn1.specs.declared.syntax.ValueTree.{ValueTree}
 use Rattle.og_asn1.specs.declared.syntax.ValueNode.{ValueNode}
@@ -43,10 +34,9 @@ use Rattle.og_asn1.specs.declared.syntax.RunTree.{RunTree}
 use Rattle.og_dataview.specs.declared.view.NamedType.{NamedType}
 use Rattle.og_dataview.specs.declared.view.Constant.{Constant}
 use Rattle.og_dataview.specs.declared.view.DataView.{DataView}
-use Rattle.og_asn1.specs.Kinds.{kind_of, kind_of_name}
 use Rattle.og_asn1.specs.Reading.{named}
 use Rattle.og_dataview.specs.Violations.{first_violation}
-use Rattle.og_dataview.specs.View.{view_of, names_after}
+use Rattle.og_dataview.specs.View.{view_of}
 
 -- ---- texts
 

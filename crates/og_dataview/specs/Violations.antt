@@ -1,7 +1,7 @@
 -- The rules on names that modules of ASN.1 keep (after X.680 clauses 12, 13, 20, 25 and 29, where names are compared as this project's
 -- own): for each rule, the violations in the modules of all files. N2 and N7: names of one list, each against those before it. N1 and
 -- N3: names that are used, each looked for where names of its kind are declared.
-use Rattle.std.specs.Prelude.{ℕ, Bool, true, false, ◌&&◌, ◌||◌, List, [], ◌∷◌, ◌++◌, map, Option, Some, None, is_some, ℤ, filter, flat_map, if◌then◌else◌}
+use Rattle.std.specs.Prelude.{ℕ, Bool, false, ◌||◌, List, [], ◌∷◌, ◌++◌, map, Option, Some, None, ℤ, filter, flat_map, if◌then◌else◌}
 use Rattle.std.specs.List.{list_any}
 use Rattle.std.specs.Str.{bytes_eq}
 use Rattle.std.specs.Ordering.{int_eq}
@@ -9,21 +9,21 @@ use Rattle.og_base.specs.declared.Rule.{Rule}
 use Rattle.og_base.specs.declared.Rule.TheVariants.{N1, N2, N3, N7}
 use Rattle.og_base.specs.declared.Violation.{Violation}
 use Rattle.og_base.specs.Order.{first_of}
-use Rattle.og_dataview.specs.declared.flat.Bound.{Bound}
-use Rattle.og_dataview.specs.declared.flat.Bound.TheVariants as bound
-use Rattle.og_dataview.specs.declared.flat.Range.{Range}
-use Rattle.og_dataview.specs.declared.flat.Limits.{Limits}
-use Rattle.og_dataview.specs.declared.flat.Limits.TheVariants as limits
-use Rattle.og_dataview.specs.declared.flat.Enumerator.{Enumerator}
-use Rattle.og_dataview.specs.declared.flat.Written.{Written}
-use Rattle.og_dataview.specs.declared.flat.PartNode.{PartNode}
-use Rattle.og_dataview.specs.declared.flat.Node.{Node}
-use Rattle.og_dataview.specs.declared.flat.Node.TheVariants as node
-use Rattle.og_dataview.specs.declared.flat.TypeNode.{TypeNode}
-use Rattle.og_dataview.specs.declared.flat.ConstantNode.{ConstantNode}
-use Rattle.og_dataview.specs.declared.flat.ConstantValue.{ConstantValue}
-use Rattle.og_dataview.specs.declared.flat.ConstantValue.TheVariants as value
-use Rattle.og_dataview.specs.declared.flat.Flat.{Flat}
+use Rattle.og_flat.specs.declared.flat.Bound.{Bound}
+use Rattle.og_flat.specs.declared.flat.Bound.TheVariants as bound
+use Rattle.og_flat.specs.declared.flat.Range.{Range}
+use Rattle.og_flat.specs.declared.flat.Limits.{Limits}
+use Rattle.og_flat.specs.declared.flat.Limits.TheVariants as limits
+use Rattle.og_flat.specs.declared.flat.Enumerator.{Enumerator}
+use Rattle.og_flat.specs.declared.flat.Written.{Written}
+use Rattle.og_flat.specs.declared.flat.PartNode.{PartNode}
+use Rattle.og_flat.specs.declared.flat.Node.{Node}
+use Rattle.og_flat.specs.declared.flat.Node.TheVariants as node
+use Rattle.og_flat.specs.declared.flat.TypeNode.{TypeNode}
+use Rattle.og_flat.specs.declared.flat.ConstantNode.{ConstantNode}
+use Rattle.og_flat.specs.declared.flat.ConstantValue.{ConstantValue}
+use Rattle.og_flat.specs.declared.flat.ConstantValue.TheVariants as value
+use Rattle.og_flat.specs.declared.flat.Flat.{Flat}
 use Rattle.og_asn1.specs.declared.syntax.Name.{Name}
 use Rattle.og_asn1.specs.declared.syntax.ModuleTree.{ModuleTree}
 use Rattle.og_asn1.specs.declared.syntax.ImportsTree.{ImportsTree}
@@ -32,7 +32,7 @@ use Rattle.og_asn1.specs.declared.syntax.SymbolTree.{SymbolTree}
 use Rattle.og_asn1.specs.declared.syntax.SymbolTree.TheVariants as symbol
 use Rattle.og_asn1.specs.declared.syntax.AssignmentTree.{AssignmentTree}
 use Rattle.og_asn1.specs.declared.syntax.AssignmentTree.TheVariants as assignment
-use Rattle.og_dataview.specs.Flattening.{flat_of}
+use Rattle.og_flat.specs.Flattening.{flat_of}
 use Rattle.og_dataview.specs.Scope.{key, is_declared_type, is_declared_constant, is_built_in, is_predefined, is_procedure, is_operator}
 use Rattle.og_dataview.specs.Following.{is_integer_type, as_number}
 

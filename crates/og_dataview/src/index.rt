@@ -3,6 +3,7 @@ ghost use Rattle.std.specs.Prelude.{◌≡◌, ◌∷◌, [], ◌++◌, List, �
 ghost use Rattle.og_names.specs.Folding.{place_of, with_name};
 ghost use Rattle.og_dataview.specs.Scope.{key};
 ghost use Rattle.og_dataview.specs.Index.{IsIndex};
+ghost use Rattle.og_dataview.specs.Naming.{IsFront};
 
 use og_asn1::Name;
 use og_names::{Names, NoMemory};
@@ -48,11 +49,12 @@ impl Index {
 }
 
 /// Gives a name its number in a table: a new one the next, a known one its own.
-#[tactic(auto, using(crate::proofs::Short::short))]
+#[tactic(auto, using(crate::proofs::Short::short, crate::proofs::Adding::front_equal, crate::proofs::Adding::front_name))]
 pub fn add_name(names: &mut Names, name: &Name) -> Result<u32, NoMemory>
     ensures added { OnOk result (names.new ≡ with_name names.old (key name.now)) }
     ensures number { IfOk result (λ id. place_of names.new (key name.now) ≡ Some id) }
     ensures refused { OnErr result (names.new ≡ names.old) }
+    ensures front { IsFront names.old names.new }
 {
     let count = names.len();
     if count >= u32::MAX as usize {

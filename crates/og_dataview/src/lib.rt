@@ -1,15 +1,13 @@
 //! The data that modules of ASN.1 declare (X.680), and the rules on names that they keep.
 #![tactic(auto)]
 
-mod copy;
+mod constants;
 mod counting;
-mod flat;
-mod flatten;
 mod imports;
 mod index;
 mod known;
 pub mod laws;
-mod limits;
+mod naming;
 mod notes;
 mod numbers;
 mod repeats;
@@ -19,5 +17,7 @@ mod view;
 mod violations;
 mod ways;
 
+pub use naming::add_all as add_names;
+pub use scope::Scope;
 pub use view::{Constant, DataView, NamedType};
 pub use violations::first_violation;

@@ -1,6 +1,6 @@
 //! Numbers from one to another.
 ghost use Rattle.std.specs.Prelude.{◌≡◌};
-ghost use Rattle.og_dataview.specs.Limits.{signed};
+ghost use Rattle.og_flat.specs.Limits.{signed};
 ghost use Rattle.og_dataview.specs.Following.{both as the_numbers_in_both};
 
 /// The numbers from the first to the second, both of them among these. There are none where the second is less.

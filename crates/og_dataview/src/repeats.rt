@@ -7,13 +7,13 @@ ghost use Rattle.og_dataview.specs.Following.{as_number};
 ghost use Rattle.og_dataview.specs.Violations.{repeated, repeated_names, given, given_again, repeated_numbers};
 ghost use Rattle.og_dataview.specs.Met.{has_word, IsMet, AreMet};
 
-use crate::flat::{ConstantNode, Enumerator, PartNode, TypeNode, Written};
 use crate::index::add_name;
 use crate::notes::note_if;
 use crate::numbers::signed;
 use indexmap::IndexSet;
 use og_asn1::Name;
 use og_base::{Rule, Violation};
+use og_flat::{ConstantNode, Enumerator, PartNode, TypeNode, Written};
 use og_names::{Names, NoMemory};
 use std::alloc::Global;
 use std::marker::Model;

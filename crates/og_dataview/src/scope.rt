@@ -6,11 +6,11 @@ ghost use Rattle.og_dataview.specs.Index.{IsIndex};
 ghost use Rattle.og_dataview.specs.Ways.{Leads, step_in};
 
 use crate::counting::counted;
-use crate::flat::{ConstantNode, Flat, Node, TypeNode};
 use crate::index::Index;
 use crate::known::is_integer;
 use crate::ways::{next_in, walked};
 use og_asn1::Name;
+use og_flat::{ConstantNode, Flat, Node, TypeNode};
 use og_names::NoMemory;
 use std::alloc::Global;
 

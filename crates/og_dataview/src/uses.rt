@@ -5,15 +5,15 @@ ghost use Rattle.std.specs.List.{flat_map};
 ghost use Rattle.og_base.specs.Order.{first_from};
 ghost use Rattle.og_dataview.specs.Violations.{built_in_again, used_type, used_constant, used_by_bound, used_by_range, used_by_limits, used_as_value, used_by_part, used_by_constant, in_parts, in_enumerators, in_node, in_flat};
 
-use crate::flat::{
-    Bound, ConstantNode, ConstantValue, Enumerator, Limits, Node, PartNode, Range, TypeNode,
-};
 use crate::known::{is_built_in, is_operator, is_predefined, is_procedure};
 use crate::notes::{note_if, note_looked_up};
 use crate::repeats::{note_repeated_names, note_repeated_numbers};
 use crate::scope::Scope;
 use og_asn1::Name;
 use og_base::{Rule, Violation};
+use og_flat::{
+    Bound, ConstantNode, ConstantValue, Enumerator, Limits, Node, PartNode, Range, TypeNode,
+};
 use og_names::NoMemory;
 use std::alloc::Global;
 

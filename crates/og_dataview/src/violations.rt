@@ -1,13 +1,13 @@
 //! The rules on names: the first violation in modules.
 ghost use Rattle.std.specs.Prelude.{◌≡◌, IfOk};
-ghost use Rattle.og_dataview.specs.Flattening.{flat_of as laid_out};
+ghost use Rattle.og_flat.specs.Flattening.{flat_of as laid_out};
 ghost use Rattle.og_dataview.specs.Violations.{first_violation};
 
-use crate::flatten::flat_of;
 use crate::imports::exported_of;
 use crate::scope::Scope;
 use og_asn1::ModuleTree;
 use og_base::Violation;
+use og_flat::flat_of;
 use og_names::NoMemory;
 use std::alloc::Global;
 

@@ -1,9 +1,9 @@
 use Rattle.std.proofs.Common.{refl}
 use denote.Hole.Rolled.{depth}
-use denote.Hole.Carrier.{fold, out, roll, shown, hidden}
+use denote.Hole.Carrier.{fold, out, shown, hidden}
 use Rattle.og_lexer.specs.Bytes.{class_of}
-use Rattle.og_asn1.specs.declared.syntax.BaseTree.TheBlock.{the_depth, shown-the_row-CompTree-0, shape-the_row-CompTree-0, hidden-the_row-CompTree-0, shown-the_row-TypeTree-1}
-use Rattle.og_asn1.specs.declared.syntax.BaseTree.TheViews.{out-BaseTree, out-CompTree, out-OfTree, roll-OfTree}
+use Rattle.og_asn1.specs.declared.syntax.BaseTree.TheBlock.{the_depth, shown-the_row-CompTree-0, shape-the_row-CompTree-0, hidden-the_row-CompTree-0}
+use Rattle.og_asn1.specs.declared.syntax.BaseTree.TheViews.{out-BaseTree, out-CompTree}
 use Rattle.og_asn1.specs.declared.syntax.ValueNode.TheViews.{out-ValueNode}
 use Rattle.og_asn1.specs.Kinds.{kind_of, kind_of_name}
 use Rattle.og_asn1.specs.Reading.{named}

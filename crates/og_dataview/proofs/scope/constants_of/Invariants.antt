@@ -1,5 +1,5 @@
 use Rattle.std.proofs.Common.{map, take}
-use Rattle.og_dataview.specs.declared.flat.ConstantNode.{ConstantNode}
+use Rattle.og_flat.specs.declared.flat.ConstantNode.{ConstantNode}
 use Rattle.og_dataview.specs.Scope.{key}
 use Rattle.og_dataview.specs.Index.{IsIndex}
 use Rattle.og_dataview.proofs.scope.constants_of.Given as goal

@@ -1,6 +1,6 @@
 use Rattle.std.proofs.Common.{◌+◌, suc, length, arith, ap, ◌∙◌}
 use Rattle.og_dataview.specs.Following.{next_type}
-use Rattle.og_dataview.specs.Ways.{step_in, Leads}
+use Rattle.og_dataview.specs.Ways.{step_in}
 use Rattle.og_dataview.proofs.Tables.{leads_by}
 use Rattle.og_dataview.proofs.scope.ends_of.Goals as goal
 

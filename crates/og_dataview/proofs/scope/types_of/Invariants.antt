@@ -1,5 +1,5 @@
 use Rattle.std.proofs.Common.{map, take}
-use Rattle.og_dataview.specs.declared.flat.TypeNode.{TypeNode}
+use Rattle.og_flat.specs.declared.flat.TypeNode.{TypeNode}
 use Rattle.og_dataview.specs.Scope.{key}
 use Rattle.og_dataview.specs.Index.{IsIndex}
 use Rattle.og_dataview.proofs.scope.types_of.Given as goal

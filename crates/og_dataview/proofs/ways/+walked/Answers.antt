@@ -1,4 +1,4 @@
-use Rattle.std.proofs.Common.{◌+◌, ◌/◌, ◌∙◌, arith}
+use Rattle.std.proofs.Common.{◌/◌, ◌∙◌, arith}
 use Rattle.og_dataview.specs.Ways.{step_in}
 use Rattle.og_dataview.proofs.Tables.{walks_odd}
 use Rattle.og_dataview.proofs.ways.+walked.Goals as goal

@@ -1,4 +1,4 @@
-use Rattle.std.proofs.Common.{rules, arith, refl}
+use Rattle.std.proofs.Common.{arith, refl}
 use Rattle.og_dataview.specs.Scope.{key}
 use Rattle.og_dataview.proofs.Indexing.{index_pushed, index_kept}
 use Rattle.og_dataview.proofs.index.Index.add.Goals as goal

@@ -1,8 +1,8 @@
 use Rattle.std.proofs.Common.{map, ap, ◌∙◌}
 use Rattle.std.specs.List.{flat_map}
 use Rattle.og_base.specs.Order.{first_from}
-use Rattle.og_dataview.specs.declared.flat.TypeNode.{TypeNode}
-use Rattle.og_dataview.specs.declared.flat.ConstantNode.{ConstantNode}
+use Rattle.og_flat.specs.declared.flat.TypeNode.{TypeNode}
+use Rattle.og_flat.specs.declared.flat.ConstantNode.{ConstantNode}
 use Rattle.og_dataview.specs.Violations.{repeated_names, built_in_again, in_node, used_by_constant}
 use Rattle.og_dataview.proofs.Noting.{first_of_five}
 use Rattle.og_dataview.proofs.scope.Scope.note_all.Goals as goal

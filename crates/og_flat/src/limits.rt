@@ -1,7 +1,7 @@
 //! What stands in brackets behind a type: a range, a size or something else.
 ghost use Rattle.std.specs.Prelude.{◌≡◌, Option, Some, None, IfOk};
 ghost use Rattle.std.specs.Option.{option_map, option_copied};
-ghost use Rattle.og_dataview.specs.Limits.{read_front, bound_in, negative_bound, read_range, with_second, range_front, range_in, closed, size_in, limits_in, limits_of, limits_of_size, or_size};
+ghost use Rattle.og_flat.specs.Limits.{read_front, bound_in, negative_bound, read_range, with_second, range_front, range_in, closed, size_in, limits_in, limits_of, limits_of_size, or_size};
 
 use crate::flat::{Bound, Limits, Range};
 use og_asn1::kind::{VALUE_NAME, kind_of};

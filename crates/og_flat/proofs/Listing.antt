@@ -1,18 +1,17 @@
 -- Loops that lay types out flat: the parts of a choice or a sequence one after the other, and enumerators.
-use Rattle.std.proofs.Common.{◌≡◌, ℕ, ◌+◌, ◌≤◌, ◌<◌, Bool, true, false, ◌&&◌, List, [], ◌∷◌, ◌++◌, length, get_or, refl, sym, ap, ◌∙◌, append_assoc, length-append, arith, Option, is_none}
+use Rattle.std.proofs.Common.{◌≡◌, ℕ, ◌+◌, ◌≤◌, ◌<◌, Bool, true, false, ◌&&◌, List, [], ◌∷◌, ◌++◌, length, get_or, refl, sym, ap, ◌∙◌, append_assoc, length-append, arith, is_none}
 use Rattle.std.proofs.lemmas.List.{append-nil}
 use Rattle.og_names.proofs.Loops.{Left, left_first, left_more, left_all}
-use Rattle.og_asn1.specs.declared.syntax.Name.{Name}
 use Rattle.og_asn1.specs.declared.syntax.TypeTree.{TypeTree}
 use Rattle.og_asn1.specs.declared.syntax.BaseTree.{BaseTree}
 use Rattle.og_asn1.specs.declared.syntax.BaseTree.TheOpen.{CompTree-F, Part, Extension}
 use Rattle.og_asn1.specs.declared.syntax.OfTree.{OfTree}
 use Rattle.og_asn1.specs.declared.syntax.CompTree.{CompTree, out-CompTree}
 use Rattle.og_asn1.specs.declared.syntax.EnumTree.{EnumTree}
-use Rattle.og_dataview.specs.declared.flat.Node.{Node}
-use Rattle.og_dataview.specs.declared.flat.PartNode.{PartNode}
-use Rattle.og_dataview.specs.declared.flat.Enumerator.{Enumerator}
-use Rattle.og_dataview.specs.Flattening.{Parts, no_parts, with_part, opened, last_of, default_of, parts_by, parts_of, one_part, enumerator_of, enumerators_of}
+use Rattle.og_flat.specs.declared.flat.Node.{Node}
+use Rattle.og_flat.specs.declared.flat.PartNode.{PartNode}
+use Rattle.og_flat.specs.declared.flat.Enumerator.{Enumerator}
+use Rattle.og_flat.specs.Flattening.{Parts, no_parts, last_of, default_of, parts_by, parts_of, one_part, enumerator_of, enumerators_of}
 
 abbrev joined : Parts → Parts → Parts
 joined a b = record { nodes = a.nodes ++ b.nodes; parts = a.parts ++ b.parts; is_plain = a.is_plain && b.is_plain }

@@ -2,7 +2,7 @@
 ghost use Rattle.std.specs.Prelude.{◌≡◌, ◌∷◌, [], ◌++◌, ◌-◌, ◌&&◌, length, IfOk, OnOk};
 ghost use Rattle.std.specs.Option.{option_copied};
 ghost use Rattle.og_asn1.specs.declared.syntax.BaseTree.{out-BaseTree};
-ghost use Rattle.og_dataview.specs.Flattening.{written_number, enumerator_of, enumerators_of, is_open, name_alone, constant_value, default_of, last_of, one_part, parts_of, nodes_by, nodes_of, with_assignment, with_assignments, flat_of};
+ghost use Rattle.og_flat.specs.Flattening.{written_number, enumerator_of, enumerators_of, is_open, name_alone, constant_value, default_of, last_of, one_part, parts_of, nodes_by, nodes_of, with_assignment, with_assignments, flat_of};
 
 use crate::flat::{
     ConstantNode, ConstantValue, Enumerator, Flat, Limits, Node, PartNode, TypeNode, Written,

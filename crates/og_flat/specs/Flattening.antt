@@ -1,22 +1,20 @@
 -- Modules laid out flat: the types of all modules in one list, each behind the types in it, and the types and constants that the
 -- modules declare, in the order of the text. Tags are left out, since they change nothing.
 use Rattle.std.specs.Prelude.{ℕ, zero, suc, ◌+◌, ◌-◌, Bool, true, false, ◌&&◌, ◌||◌, List, [], ◌∷◌, ◌++◌, length, Option, Some, None, is_none}
-use Rattle.og_dataview.specs.declared.flat.Enumerator.{Enumerator}
-use Rattle.og_dataview.specs.declared.flat.Written.{Written}
-use Rattle.og_dataview.specs.declared.flat.PartNode.{PartNode}
-use Rattle.og_dataview.specs.declared.flat.Node.{Node}
-use Rattle.og_dataview.specs.declared.flat.Node.TheVariants as node
-use Rattle.og_dataview.specs.declared.flat.Limits.TheVariants as limits
-use Rattle.og_dataview.specs.declared.flat.TypeNode.{TypeNode}
-use Rattle.og_dataview.specs.declared.flat.ConstantNode.{ConstantNode}
-use Rattle.og_dataview.specs.declared.flat.ConstantValue.{ConstantValue}
-use Rattle.og_dataview.specs.declared.flat.ConstantValue.TheVariants as value
-use Rattle.og_dataview.specs.declared.flat.Flat.{Flat}
+use Rattle.og_flat.specs.declared.flat.Enumerator.{Enumerator}
+use Rattle.og_flat.specs.declared.flat.Written.{Written}
+use Rattle.og_flat.specs.declared.flat.PartNode.{PartNode}
+use Rattle.og_flat.specs.declared.flat.Node.{Node}
+use Rattle.og_flat.specs.declared.flat.Node.TheVariants as node
+use Rattle.og_flat.specs.declared.flat.Limits.TheVariants as limits
+use Rattle.og_flat.specs.declared.flat.ConstantValue.{ConstantValue}
+use Rattle.og_flat.specs.declared.flat.ConstantValue.TheVariants as value
+use Rattle.og_flat.specs.declared.flat.Flat.{Flat}
 use Rattle.og_asn1.specs.declared.syntax.Name.{Name}
 use Rattle.og_asn1.specs.declared.syntax.ModuleTree.{ModuleTree}
 use Rattle.og_asn1.specs.declared.syntax.AssignmentTree.{AssignmentTree}
 use Rattle.og_asn1.specs.declared.syntax.AssignmentTree.TheVariants as assignment
-use Rattle.og_asn1.specs.declared.syntax.TypeTree.{TypeTree, out-TypeTree, size-TypeTree}
+use Rattle.og_asn1.specs.declared.syntax.TypeTree.{TypeTree, size-TypeTree}
 use Rattle.og_asn1.specs.declared.syntax.BaseTree.{BaseTree, BaseTree-F, out-BaseTree}
 use Rattle.og_asn1.specs.declared.syntax.BaseTree.TheOpen as base
 use Rattle.og_asn1.specs.declared.syntax.BaseTree.TheOpen.{CompTree-F}
@@ -27,10 +25,10 @@ use Rattle.og_asn1.specs.declared.syntax.EnumTree.TheVariants as item
 use Rattle.og_asn1.specs.declared.syntax.CompTree.{CompTree, out-CompTree}
 use Rattle.og_asn1.specs.declared.syntax.PresenceTree.{PresenceTree}
 use Rattle.og_asn1.specs.declared.syntax.PresenceTree.TheVariants as presence
-use Rattle.og_asn1.specs.declared.syntax.ValueTree.{ValueTree, out-ValueTree}
+use Rattle.og_asn1.specs.declared.syntax.ValueTree.{ValueTree}
 use Rattle.og_asn1.specs.declared.syntax.ValueNode.{ValueNode, ValueNode-F, out-ValueNode}
 use Rattle.og_asn1.specs.declared.syntax.ValueNode.TheOpen as written
-use Rattle.og_dataview.specs.Limits.{limits_of, limits_of_size}
+use Rattle.og_flat.specs.Limits.{limits_of, limits_of_size}
 
 -- ---- enumerators
 

@@ -1,7 +1,7 @@
-use Rattle.std.proofs.Common.{◌≡◌, ◌++◌, ◌-◌, ◌∙◌, length, ap, sym, length-append}
-use Rattle.og_dataview.specs.Flattening.{nodes_of}
-use Rattle.og_dataview.proofs.Layers.{nodes_layer}
-use Rattle.og_dataview.proofs.flatten.+nodes.Goals as goal
+use Rattle.std.proofs.Common.{◌++◌, ◌-◌, ◌∙◌, length, ap, sym, length-append}
+use Rattle.og_flat.specs.Flattening.{nodes_of}
+use Rattle.og_flat.proofs.Layers.{nodes_layer}
+use Rattle.og_flat.proofs.flatten.+nodes.Goals as goal
 
 pub add_type-returns-clause-nodes : goal.add_type-returns-clause-nodes
 add_type-returns-clause-nodes t c =

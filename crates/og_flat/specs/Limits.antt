@@ -2,22 +2,18 @@
 -- a size is the word SIZE with a range in brackets. A bound is a number, which may have a sign, or the name of a constant.
 -- Anything else is none of the two, names with a sign and the words MIN and MAX among it.
 use Rattle.std.specs.Prelude.{ℕ, zero, suc, ◌==◌, Bool, true, false, List, [], ◌∷◌, Option, Some, None, ℤ, pos, negsuc, if◌then◌else◌}
-use Rattle.std.specs.Option.{option_map}
-use Rattle.og_base.specs.declared.Place.{Place}
-use Rattle.og_lexer.specs.declared.AsnKeyword.{AsnKeyword}
 use Rattle.og_lexer.specs.declared.AsnKeyword.TheVariants.{Size}
 use Rattle.og_lexer.specs.declared.AsnMark.{AsnMark}
 use Rattle.og_lexer.specs.declared.AsnMark.TheVariants as mark
 use Rattle.og_lexer.specs.declared.Spanned.{Spanned}
 use Rattle.og_lexer.specs.declared.Token.{Token}
 use Rattle.og_lexer.specs.declared.Token.TheVariants as token
-use Rattle.og_dataview.specs.declared.limits as code
-use Rattle.og_dataview.specs.declared.flat.Bound.{Bound}
-use Rattle.og_dataview.specs.declared.flat.Bound.TheVariants as bound
-use Rattle.og_dataview.specs.declared.flat.Range.{Range}
-use Rattle.og_dataview.specs.declared.flat.Limits.{Limits}
-use Rattle.og_dataview.specs.declared.flat.Limits.TheVariants as limits
-use Rattle.og_asn1.specs.declared.syntax.Name.{Name}
+use Rattle.og_flat.specs.declared.limits as code
+use Rattle.og_flat.specs.declared.flat.Bound.{Bound}
+use Rattle.og_flat.specs.declared.flat.Bound.TheVariants as bound
+use Rattle.og_flat.specs.declared.flat.Range.{Range}
+use Rattle.og_flat.specs.declared.flat.Limits.{Limits}
+use Rattle.og_flat.specs.declared.flat.Limits.TheVariants as limits
 use Rattle.og_asn1.specs.declared.syntax.RunTree.{RunTree}
 use Rattle.og_asn1.specs.declared.syntax.SizeTree.{SizeTree}
 use Rattle.og_asn1.specs.declared.syntax.SizeTree.TheVariants as size

@@ -1,6 +1,6 @@
 -- A type is laid out as one layer of it says of its parts, at any depth: the depth by which `nodes_of` recurses changes nothing
 -- once it covers the tree.
-use Rattle.std.proofs.Common.{◌≡◌, ℕ, zero, suc, ◌+◌, ◌≤◌, max, List, [], ◌∷◌, ◌++◌, length, refl, ap, sym, ◌∙◌, le_refl, le_trans, arith}
+use Rattle.std.proofs.Common.{◌≡◌, ℕ, zero, suc, ◌+◌, ◌≤◌, List, [], ◌∷◌, ◌++◌, length, refl, ap, ◌∙◌, le_refl, arith}
 use denote.Param.Weighed.{most}
 use denote.Hole.Carrier
 use Rattle.og_asn1.specs.declared.syntax.TypeTree.{TypeTree, size-TypeTree, size_is-TypeTree}
@@ -9,10 +9,10 @@ use Rattle.og_asn1.specs.declared.syntax.BaseTree.TheOpen.{Integer, Boolean, Ref
 use Rattle.og_asn1.specs.declared.syntax.BaseTree.TheBlock as Block
 use Rattle.og_asn1.specs.declared.syntax.OfTree.{OfTree, out-OfTree, size-OfTree, size_is-OfTree}
 use Rattle.og_asn1.specs.declared.syntax.CompTree.{CompTree, out-CompTree, size-CompTree, size_is-CompTree}
-use Rattle.og_dataview.specs.declared.flat.Node.{Node}
-use Rattle.og_dataview.specs.declared.flat.Node.TheVariants as node
-use Rattle.og_dataview.specs.Limits.{limits_of_size}
-use Rattle.og_dataview.specs.Flattening.{Parts, with_part, opened, last_of, parts_by, parts_of, nodes_by, nodes_within, nodes_of}
+use Rattle.og_flat.specs.declared.flat.Node.{Node}
+use Rattle.og_flat.specs.declared.flat.Node.TheVariants as node
+use Rattle.og_flat.specs.Limits.{limits_of_size}
+use Rattle.og_flat.specs.Flattening.{Parts, with_part, opened, last_of, parts_by, parts_of, nodes_by, nodes_within, nodes_of}
 
 -- ---- sizes of parts
 

@@ -1,0 +1,11 @@
+use Rattle.std.proofs.Common.{◌+◌, suc, length, arith, ap, ◌∙◌}
+use Rattle.og_dataview.specs.Following.{next_constant}
+use Rattle.og_dataview.specs.Ways.{step_in}
+use Rattle.og_dataview.proofs.Tables.{leads_by}
+use Rattle.og_dataview.proofs.scope.Scope.last_constants.Goals as goal
+
+pub returns : goal.returns
+returns c =
+    leads_by (next_constant c.args.self.now.flat) (c.in_ok-steps.steps + 1) (suc (length c.args.self.now.flat.constants)) c.as_slice.result.now c.in_ok-lasts.lasts.items
+    (omega (arith, c.in_ok-steps.ensures, c.len.ensures)) (λ p. ap (λ xs. step_in xs p) c.as_slice.ensures.value ∙ c.in_ok-nexts.ensures p)
+    c.in_ok-lasts.ensures.leads
