@@ -13,7 +13,7 @@ use Rattle.og_ccells.specs.Layouts.{capped, globals_before, extents_from, layout
 use Rattle.og_ccells.proofs.Widths.{most, up_to_small}
 
 -- as many cells as all globals have
-abbrev all_cells : List CStruct → List CGlobal → ℕ
+abbrev pub all_cells : List CStruct → List CGlobal → ℕ
 all_cells structs globals = total (map (λ (g : CGlobal). width_of structs g.kind) globals)
 
 abbrev pub extent_of : ℕ → List CStruct → CGlobal → Extent

@@ -20,10 +20,13 @@ use Rattle.og_csubset.specs.Loading.{is_shaped, structs_known, cells_of_globals,
 use Rattle.og_csubset.specs.Reads.{put_numbered, put_named, cells_of_shape}
 use Rattle.og_csubset.proofs.Steady.{all_at}
 use Rattle.og_ccells.specs.Layouts.{globals_before, layout_of}
-use Rattle.og_ccells.specs.Vectors.{trees_of, SameShape}
+use Rattle.og_ccells.specs.declared.layout.Extent.{Extent}
+use Rattle.og_ccells.specs.Vectors.{trees_of, numbers_of, SameShape}
 use Rattle.og_ccells.proofs.Extents.{extent_of}
 use Rattle.og_ccells.proofs.Located.{global_put}
 use Rattle.og_ccells.proofs.Naming.{named}
+use Rattle.og_ccells.proofs.Overwriting.{length-overwritten}
+use Rattle.og_cload.specs.declared.fields.Shape.{Shape}
 use Rattle.og_ccells.proofs.Shapes.{value_shape}
 use Rattle.og_cstatement.proofs.Loaded.{loaded}
 use Rattle.og_cstatement.specs.declared.position.Position.{Position}
@@ -95,6 +98,15 @@ module _ (P : CProgram) (M : Model) (loads : first_load_rule P M ≡ None) (xs :
   input_same signal k h =
       ap (λ o. trees_of P (put_in_vector M.types (layout_of P).extents o v xs)) (slot_is signal k)
       ∙ option_same (slice_get (inputs_of M signal) k) (λ field e. all_at (fits P M) (inputs_of M signal) k field ((fitted P M loads).inputs signal h) e)
+
+there_length : (sorts : List Sort) (shape : Shape) (v : Value) (o : Option Extent) (xs : List ℤ) → length (put_there sorts shape v o xs) ≡ length xs
+there_length sorts shape v None xs = refl
+there_length sorts shape v (Some e) xs = length-overwritten (numbers_of (shape_cells sorts shape v)) xs e.offset
+
+-- as many cells as before
+pub put_length : (sorts : List Sort) (extents : List Extent) (o : Option Slot) (v : Value) (xs : List ℤ) → length (put_in_vector sorts extents o v xs) ≡ length xs
+put_length sorts extents None v xs = refl
+put_length sorts extents (Some slot) v xs = there_length sorts slot.shape v (extent_at extents slot.place) xs
 
 -- ---- runs
 

@@ -1,6 +1,6 @@
-use Rattle.std.proofs.Common.{map, arith, refl}
+use Rattle.std.proofs.Common.{◌≤◌, map, get_or, sym, refl, arith}
 use Rattle.og_ccells.specs.declared.layout.Extent.{Extent}
-use Rattle.og_ccells.proofs.Widths.{most, small, sum_first, sum_more, sum_all, up_to_small}
+use Rattle.og_ccells.proofs.Widths.{most, small, sum_first, sum_more_at, sum_all, up_to_small}
 use Rattle.og_ccells.proofs.first.cells_in.Goals as goal
 
 pub loop-extent-init : goal.loop-extent-init
@@ -8,9 +8,9 @@ loop-extent-init c = (omega arith, sum_first most (λ (e : Extent). e.width) c.a
 
 pub loop-extent-preserved : goal.loop-extent-preserved
 loop-extent-preserved c = (
-  small most c.loop-extent.count c.extent-item.result.width c.saturating_add-count.result c.saturating_add-count.ensures,
-  sum_more most (λ (e : Extent). e.width) c.args.extents.now c.loop-extent.extent-index c.loop-extent.count
-      c.extent-item.result.width c.saturating_add-count.result _ c.extent-item.result (search) c.saturating_add-count.ensures c.loop-extent-test.true c.extent-item.is
+  small most c.loop-extent.count _ c.saturating_add-count.result c.saturating_add-count.ensures,
+  sum_more_at most (λ (e : Extent). e.width) c.args.extents.now c.loop-extent.extent-index c.loop-extent.count _
+      c.saturating_add-count.result _ _ (sym (up_to_small most _ (omega arith))) c.saturating_add-count.ensures c.loop-extent-test.true
       c.loop-extent.invariant.1,
 )
 
