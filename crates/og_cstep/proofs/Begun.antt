@@ -47,14 +47,15 @@ stimulus_is M names (Timer k) h = ap joined (range_get (timer_entry names M) 0 (
 
 place_below : (name : List ℕ) (names : List (List ℕ)) (k : ℕ) → place_in name names ≡ Some k → k < length names
 place_below name [] k e = absurd (none-some k e)
-place_below name (other ∷ names) k e = by_test (bytes_eq name other) (place_in name names) refl e
+place_below name (other ∷ names) k e = by_test (bytes_eq name other) (place_in name names) refl e (place_below name names)
   where
-    by_test : (b : Bool) (o : Option ℕ) → place_in name names ≡ o → cond b (Some 0) (o >>= λ i. Some (i + 1)) ≡ Some k → k < suc (length names)
-    by_test true o is h = let first : 0 ≡ k = same_value 0 k h in omega (arith, first)
-    by_test false None is h = absurd (none-some k h)
-    by_test false (Some i) is h =
+    by_test : (b : Bool) (o : Option ℕ) → place_in name names ≡ o → cond b (Some 0) (o >>= λ i. Some (i + 1)) ≡ Some k
+        → ((i : ℕ) → place_in name names ≡ Some i → i < length names) → k < suc (length names)
+    by_test true o is h later = let first : 0 ≡ k = same_value 0 k h in omega (arith, first)
+    by_test false None is h later = absurd (none-some k h)
+    by_test false (Some i) is h later =
         let next : i + 1 ≡ k = same_value (i + 1) k h in
-        let lt = place_below name names i is in
+        let lt = later i is in
         omega (arith, next, lt)
 
 below_by : (n : ℕ) (o : Option ℕ) → ((k : ℕ) → o ≡ Some k → k < n) → IfSome o (λ k. k < n)
@@ -66,7 +67,7 @@ pub entry_below : (P : CProgram) (M : Model) (stimulus : StimId) (found : Option
     → functions ≡ length P.functions → IfSome found (λ k. k < functions)
 entry_below P M stimulus found functions h e n =
     let is : found ≡ place_in (function_name M stimulus) (function_names P) = e ∙ stimulus_is M (function_names P) stimulus h in
-    let many : length (function_names P) ≡ functions = length-map (λ (f : CFunction). f.name.bytes) P.functions ∙ sym n in
+    let many : length (function_names P) ≡ functions = length-map P.functions (λ (f : CFunction). f.name.bytes) ∙ sym n in
     below_by functions found (λ k at. let lt = place_below (function_name M stimulus) (function_names P) k (sym is ∙ at) in omega (arith, lt, many))
 
 -- the run of a stimulus begins in its function

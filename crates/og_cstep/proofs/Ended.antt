@@ -29,8 +29,8 @@ use Rattle.og_cstep.specs.Answered.{answer_at_end}
 use Rattle.og_cstep.specs.Interfaces.{slot_named, slots_named, region_slot, signal_slots, duration_place, no_duration_name, interface_among, kept_shape}
 use Rattle.og_csubset.specs.Kinds.{place_in}
 use Rattle.og_cstep.proofs.Fitted.{range_get}
-use Rattle.og_cstep.specs.Machines.{is_not_zero}
-use Rattle.og_cstep.specs.Slots.{Sight, in_trees, shape_value, cells_at, are_held, holds_truth, is_leaf, rests_in, answer_if, fault_of, fault_answer, rest_answer, stopped_answer, by_stopped, by_kind, end_answer, outputs_at, inputs_at, duration_slot, duration_at, shows, timer_number, variables_held, timers_held, regions_held}
+use Rattle.og_cstep.specs.Machines.{is_not_zero, leaf_of}
+use Rattle.og_cstep.specs.Slots.{Sight, in_trees, shape_value, cells_at, are_held, holds_truth, is_leaf, rests_in, answer_if, fault_of, fault_answer, rest_answer, stopped_answer, by_stopped, by_kind, end_answer, outputs_at, inputs_at, duration_slot, duration_at, shows, timer_number, leaf_in, leaf_at, variables_held, timers_held, regions_held}
 
 -- ---- options
 
@@ -255,6 +255,26 @@ timer_same model names cells k =
     ap (λ slots. slice_get slots k >>= λ slot. (in_trees model.types cells).number slot.place) (map_twice (interface.timer_field model) (slot_named names) model.timers)
     ∙ ap (λ o. o >>= λ slot. (in_trees model.types cells).number slot.place) (slice_get-map (λ id. slot_named names (interface.timer_field model id)) model.timers k)
     ∙ timer_by model names cells (slice_get model.timers k)
+
+-- ---- regions by their numbers
+
+leaf_is : (region : Region) (a : Option ℤ) → (a >>= leaf_in (length region.leaves)) ≡ (a >>= leaf_of region)
+leaf_is region None = refl
+leaf_is region (Some (pos n)) = refl
+leaf_is region (Some (negsuc n)) = refl
+
+leaf_by : (model : Model) (names : List (List ℕ)) (cells : List Cells) (o : Option Region)
+    → (option_map (region_slot names model) o >>= λ slot. (in_trees model.types cells).number slot.place >>= leaf_in slot.leaves)
+    ≡ (o >>= λ region. number_named (record { names = names; cells = cells }) (interface.region_field model region).name >>= leaf_of region)
+leaf_by model names cells None = refl
+leaf_by model names cells (Some region) = leaf_is region (number_named (record { names = names; cells = cells }) (interface.region_field model region).name)
+
+pub leaf_same : (model : Model) (names : List (List ℕ)) (cells : List Cells) (k : ℕ)
+    → leaf_at (in_trees model.types cells).number (interface_among names model) k
+    ≡ (slice_get (regions model) k >>= λ region. number_named (record { names = names; cells = cells }) (interface.region_field model region).name >>= leaf_of region)
+leaf_same model names cells k =
+    ap (λ o. o >>= λ slot. (in_trees model.types cells).number slot.place >>= leaf_in slot.leaves) (slice_get-map (region_slot names model) (regions model) k)
+    ∙ leaf_by model names cells (slice_get (regions model) k)
 
 le_none : (n : ℕ) → false ≡ nat_le (suc n) 0
 le_none n = grind (arith, nat_tests)

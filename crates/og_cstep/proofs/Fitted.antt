@@ -46,19 +46,22 @@ weaker P M (field ∷ fields) h =
 
 named_in : (name : List ℕ) (names : List (List ℕ)) (k : ℕ) → place_in name names ≡ Some k → is_in name names ≡ true
 named_in name [] k e = absurd (none-some k e)
-named_in name (other ∷ names) k e = by_test (bytes_eq name other) (place_in name names) refl e
+named_in name (other ∷ names) k e = by_test (bytes_eq name other) (place_in name names) refl e (named_in name names)
   where
-    by_test : (b : Bool) (o : Option ℕ) → place_in name names ≡ o → cond b (Some 0) (o >>= λ i. Some (i + 1)) ≡ Some k → (b || is_in name names) ≡ true
-    by_test true o is h = refl
-    by_test false None is h = absurd (none-some k h)
-    by_test false (Some i) is h = named_in name names i is
+    by_test : (b : Bool) (o : Option ℕ) → place_in name names ≡ o → cond b (Some 0) (o >>= λ i. Some (i + 1)) ≡ Some k
+        → ((i : ℕ) → place_in name names ≡ Some i → is_in name names ≡ true) → (b || is_in name names) ≡ true
+    by_test true o is h later = refl
+    by_test false None is h later = absurd (none-some k h)
+    by_test false (Some i) is h later = later i is
 
 free_global : (P : CProgram) (name : List ℕ) → is_free P name ≡ true → is_in name (global_names P) ≡ false
 free_global P name h =
-    let rest = event_names P ++ function_names P in
-    let whole : list_any (bytes_eq name) (all_names P) ≡ false = not_true (is_in name (all_names P)) h in
-    let behind = neither_second (is_in name (struct_names P)) (is_in name (global_names P ++ rest)) (sym (list_any-append (bytes_eq name) (struct_names P) (global_names P ++ rest)) ∙ whole) in
-    neither_first (is_in name (global_names P)) (is_in name rest) (sym (list_any-append (bytes_eq name) (global_names P) rest) ∙ behind)
+    let q = bytes_eq name in
+    let front = struct_names P ++ global_names P in
+    let whole : list_any q ((front ++ event_names P) ++ function_names P) ≡ false = not_true (is_in name (all_names P)) h in
+    let events = neither_first (list_any q (front ++ event_names P)) (list_any q (function_names P)) (sym (list_any-append q (front ++ event_names P) (function_names P)) ∙ whole) in
+    let both = neither_first (list_any q front) (list_any q (event_names P)) (sym (list_any-append q front (event_names P)) ∙ events) in
+    neither_second (list_any q (struct_names P)) (list_any q (global_names P)) (sym (list_any-append q (struct_names P) (global_names P)) ∙ both)
 
 -- a global that fits and is there has its shape
 pub fits_there : (P : CProgram) (M : Model) (field : Field) (k : ℕ) → fits P M field ≡ true → place_in field.name (global_names P) ≡ Some k → has_field P M field ≡ true
@@ -105,9 +108,8 @@ pub record Fitted (P : CProgram) (M : Model) : Type 0 where
 inputs_fit : (P : CProgram) (M : Model) → list_all (has_field P M) (fields_of M) ≡ true → (k : ℕ) → is_signal (slice_get M.signals k) ≡ true → list_all (fits P M) (inputs_of M k) ≡ true
 inputs_fit P M h k incoming_is =
     let q = has_field P M in
-    let others = timer_fields M ++ flat_map (inputs_of M) (incoming M) in
     let all : list_all q (flat_map (inputs_of M) (incoming M)) ≡ true =
-    back q (timer_fields M) (flat_map (inputs_of M) (incoming M)) (back q (variable_fields M) others (back q (control_fields M) (variable_fields M ++ others) h)) in
+    back q ((control_fields M ++ variable_fields M) ++ timer_fields M) (flat_map (inputs_of M) (incoming M)) h in
     let c = comes M.signals 0 k incoming_is in
     let place : 0 + k ≡ k = omega arith in
     weaker P M (inputs_of M k) (all_of_each q (inputs_of M) (incoming M) c.place k all (c.there ∙ ap Some place))
@@ -140,12 +142,15 @@ fitted P M h =
     let fields = list_all (has_field P M) (fields_of M) in
     let events = list_all (has_event P M) (events_of M) in
     let declared = list_all (λ name. is_in name (map (event_name M) (events_of M))) (event_names P) in
-    let behind : (fields && (events && declared)) ≡ true = both_second functions (fields && (events && declared)) (not_false _ g.0) in
-    let fields_are : fields ≡ true = both_first fields (events && declared) behind in
-    let events_are : events ≡ true = both_first events declared (both_second fields (events && declared) behind) in
-    let others = timer_fields M ++ flat_map (inputs_of M) (incoming M) in
+    let three : ((functions && fields) && events) ≡ true = both_first ((functions && fields) && events) declared (not_false _ g.0) in
+    let events_are : events ≡ true = both_second (functions && fields) events three in
+    let fields_are : fields ≡ true = both_second functions fields (both_first (functions && fields) events three) in
+    let q = has_field P M in
+    let named = control_fields M ++ variable_fields M in
     record {
-      variables = weaker P M (variable_fields M) (front (has_field P M) (variable_fields M) others (back (has_field P M) (control_fields M) (variable_fields M ++ others) fields_are));
+      variables = weaker P M (variable_fields M)
+          (back q (control_fields M) (variable_fields M)
+          (front q named (timer_fields M) (front q (named ++ timer_fields M) (flat_map (inputs_of M) (incoming M)) fields_are)));
       inputs = λ k is. inputs_fit P M fields_are k is;
       outputs = λ k. outputs_fit P M events_are k;
     }

@@ -79,7 +79,7 @@ pub cell_is : (P : CProgram) (xs : List ℤ) (k offset : ℕ) → cells_of_globa
     → (slice_get (layout_of P).extents k >>= λ e. cell_in e xs offset) ≡ (slice_get (trees_of P xs) k >>= λ c. slice_get (numbers_of c) offset)
 cell_is P xs k offset few =
     elim (slice_get_cases P.globals k).1 [
-      | inl found ↦ (let e = found.2.0 in
+      | inl found ↦ (let e = found.2 in
           let g = found.0 in
           let at = globals_before P.structs k P.globals in
           ap (λ o. o >>= λ x. cell_in x xs offset) (extent_is P few xs k g e)

@@ -52,11 +52,11 @@ module _ (structs : List CStruct) (known : structs_known [] structs ≡ true) (h
   parts_cells [] (p ∷ parts) h = absurd (false≢true h)
   parts_cells (m ∷ members) [] h = absurd (false≢true h)
   parts_cells (m ∷ members) (p ∷ parts) h =
-      let rest = both_second (not (is_some m.size)) (has_shape m.kind p.sort && have_shapes has_shape members parts) h in
+      let first = both_first (not (is_some m.size) && has_shape m.kind p.sort) (have_shapes has_shape members parts) h in
       ap (λ c. Both c (laid members))
-      (one_cells m.size (blank_type structs m.kind) (both_first (not (is_some m.size)) (has_shape m.kind p.sort && have_shapes has_shape members parts) h)
-      ∙ same m.kind p.sort (both_first (has_shape m.kind p.sort) (have_shapes has_shape members parts) rest))
-      ∙ ap (Both (blank p.sort)) (parts_cells members parts (both_second (has_shape m.kind p.sort) (have_shapes has_shape members parts) rest))
+      (one_cells m.size (blank_type structs m.kind) (both_first (not (is_some m.size)) (has_shape m.kind p.sort) first)
+      ∙ same m.kind p.sort (both_second (not (is_some m.size)) (has_shape m.kind p.sort) first))
+      ∙ ap (Both (blank p.sort)) (parts_cells members parts (both_second (not (is_some m.size) && has_shape m.kind p.sort) (have_shapes has_shape members parts) h))
 
   choice_cells : (parts : List Part) (members : List CMember) → is_choice has_shape parts members ≡ true → laid members ≡ Both (Cell (pos 0)) (parts_row parts)
   choice_cells parts [] h = absurd (false≢true h)

@@ -1,5 +1,6 @@
 -- What is seen of a program's globals in one vector of cells is what is seen of their trees.
-use Rattle.std.proofs.Common.{◌≡◌, ℕ, zero, suc, ◌+◌, ◌-◌, ◌^◌, ◌≤◌, ◌<◌, ℤ, pos, negsuc, List, [], ◌∷◌, ◌++◌, length, map, Bool, true, false, ◌&&◌, is_some, inl, inr, nat_lt, Option, Some, None, slice_get, get_or, unwrap_or, fun_ext, refl, sym, ap, ◌∙◌, subst, arith, length-append}
+use Rattle.std.proofs.Common.{◌≡◌, ℕ, zero, suc, ◌+◌, ◌-◌, ◌^◌, ◌≤◌, ◌<◌, ℤ, pos, negsuc, List, [], ◌∷◌, ◌++◌, length, map, Bool, true, false, ◌&&◌, is_some, inl, inr, nat_lt, Option, Some, None, slice_get, get_or, unwrap_or, refl, sym, ap, ◌∙◌, subst, arith, length-append}
+use mathlib.Core.Path.{fun_ext}
 use Rattle.std.specs.List.{find, list_all}
 use Rattle.std.specs.Str.{bytes_eq}
 use Rattle.std.specs.Option.{option_map}
@@ -24,7 +25,8 @@ use Rattle.og_csubset.specs.Kinds.{Kind, place_in, global_names, blank_within, b
 use Rattle.og_csubset.specs.Interface as interface
 use Rattle.og_csubset.specs.Interface.{Field}
 use Rattle.og_csubset.specs.Loading.{passes, is_int64, is_shaped, has_field, structs_known, cells_of_globals, first_load_rule}
-use Rattle.og_csubset.specs.Reads.{kind_numbered, event_shown, end_of}
+use Rattle.og_csubset.specs.Reads.{kind_numbered, value_of_field, event_shown, end_of}
+use Rattle.og_csubset.proofs.Steady.{all_at}
 use Rattle.og_ccells.specs.declared.layout.Extent.{Extent}
 use Rattle.og_ccells.specs.Layouts.{globals_before, layout_of}
 use Rattle.og_ccells.specs.Vectors.{filled, trees_of}
@@ -42,10 +44,10 @@ use Rattle.og_cstep.specs.declared.interface.Interface.{Interface}
 use Rattle.og_cstep.specs.declared.interface.Slot.{Slot}
 use Rattle.og_cstep.specs.Answered.{answer_at_end}
 use Rattle.og_cstep.specs.Interfaces.{slot_named, slots_named, kept_shape, interface_among, interface_of}
-use Rattle.og_cstep.specs.Slots.{Numbers, Sight, cells_at, shape_value, in_trees, extent_at, number_there, integer_of, value_there, number_of, value_of, value_if, in_vector, are_held, timers_held, regions_held, variables_held, fault_place, fault_of, fault_answer, rest_answer, stopped_answer, by_stopped, by_kind, end_answer, answer_if, outputs_at, duration_slot, duration_at, shows}
+use Rattle.og_cstep.specs.Slots.{Numbers, Sight, cells_at, shape_value, in_trees, extent_at, number_there, integer_of, value_there, number_of, value_of, value_if, in_vector, are_held, timers_held, regions_held, variables_held, fault_place, fault_of, fault_answer, rest_answer, stopped_answer, by_stopped, by_kind, end_answer, answer_if, outputs_at, output_slot, duration_slot, duration_at, shows}
 use Rattle.og_cstep.proofs.Shaped.{type_cells}
 use Rattle.og_cstep.proofs.Fitted.{fits, fits_there, Fitted, fitted}
-use Rattle.og_cstep.proofs.Ended.{end_same, shows_same, outputs_same}
+use Rattle.og_cstep.proofs.Ended.{end_same, shows_same, outputs_same, field_same}
 
 -- ---- numbers
 
@@ -82,7 +84,7 @@ module _ (P : CProgram) (few : cells_of_globals P ≤ 16777216) (xs : List ℤ) 
   number_at : (sorts : List Sort) (k : ℕ) → number_of extents xs (Some k) ≡ (in_trees sorts trees).number (Some k)
   number_at sorts k =
       elim (slice_get_cases P.globals k).1 [
-        | inl found ↦ (let e = found.2.0 in
+        | inl found ↦ (let e = found.2 in
             ap (λ o. o >>= number_there xs) (extent_is k found.0 e)
             ∙ type_number P.structs found.0.kind (globals_before P.structs k P.globals) xs
             ∙ sym (ap (λ o. o >>= number_in) (global_is P xs k found.0 e)))
@@ -195,3 +197,30 @@ event_by P M xs loads (event.Reset k) = refl
 pub event_seen : (P : CProgram) (M : Model) (xs : List ℤ) → first_load_rule P M ≡ None → (e : EventId)
     → shows (in_vector M.types (layout_of P).extents xs) (interface_of P M) e ≡ is_some (event_shown M (record { names = global_names P; cells = trees_of P xs }) e)
 event_seen P M xs loads e = event_by P M xs loads e ∙ shows_same M (global_names P) (trees_of P xs) e
+
+-- ---- values of parameters and variables
+
+value_by_field : (P : CProgram) (M : Model) (xs : List ℤ) → first_load_rule P M ≡ None → (o : Option Field) → ((field : Field) → o ≡ Some field → fits P M field ≡ true)
+    → value_if M.types (layout_of P).extents xs (option_map (slot_named (global_names P)) o) ≡ (o >>= value_of_field M (record { names = global_names P; cells = trees_of P xs }))
+value_by_field P M xs loads None h = refl
+value_by_field P M xs loads (Some field) h =
+    value_same P M loads xs field (h field refl) ∙ sym (field_same M (record { names = global_names P; cells = trees_of P xs }) field)
+
+-- the value of an output's parameter
+pub argument_seen : (P : CProgram) (M : Model) (xs : List ℤ) → first_load_rule P M ≡ None → (signal k : ℕ)
+    → value_if M.types (layout_of P).extents xs (output_slot (interface_of P M) signal k)
+    ≡ (slice_get (interface.outputs_of M signal) k >>= value_of_field M (record { names = global_names P; cells = trees_of P xs }))
+argument_seen P M xs loads signal k =
+    let names = global_names P in
+    ap (λ (slots : List Slot). value_if M.types (layout_of P).extents xs (slice_get slots k)) (outputs_same M names signal)
+    ∙ ap (value_if M.types (layout_of P).extents xs) (slice_get-map (slot_named names) (interface.outputs_of M signal) k)
+    ∙ value_by_field P M xs loads (slice_get (interface.outputs_of M signal) k) (λ field e. all_at (fits P M) (interface.outputs_of M signal) k field ((fitted P M loads).outputs signal) e)
+
+-- the value of a variable
+pub variable_seen : (P : CProgram) (M : Model) (xs : List ℤ) → first_load_rule P M ≡ None → (k : ℕ)
+    → value_if M.types (layout_of P).extents xs (slice_get (interface_of P M).variables k)
+    ≡ (slice_get (interface.variable_fields M) k >>= value_of_field M (record { names = global_names P; cells = trees_of P xs }))
+variable_seen P M xs loads k =
+    let names = global_names P in
+    ap (value_if M.types (layout_of P).extents xs) (slice_get-map (slot_named names) (interface.variable_fields M) k)
+    ∙ value_by_field P M xs loads (slice_get (interface.variable_fields M) k) (λ field e. all_at (fits P M) (interface.variable_fields M) k field (fitted P M loads).variables e)

@@ -85,6 +85,9 @@ in_vector sorts extents xs = record {
 abbrev pub cell_in : Extent → List ℤ → ℕ → Option ℤ
 cell_in extent xs k = only_if (nat_lt k extent.width) (slice_index_or xs (extent.offset + k) (pos 0))
 
+abbrev pub cell_of : List Extent → List ℤ → ℕ → ℕ → Option ℤ
+cell_of extents xs global k = slice_get extents global >>= λ extent. cell_in extent xs k
+
 -- ---- values
 
 abbrev pub are_held : Sight → List Slot → Bool

@@ -1,7 +1,7 @@
 //! What the globals of an interface say, by their numbers.
 #![tactic(auto, using(og_names::proofs::Loops::loops, crate::proofs::Slotted::slotted))]
 
-ghost use Rattle.std.specs.Prelude.{◌≡◌, Some, is_some};
+ghost use Rattle.std.specs.Prelude.{◌≡◌, ◌&&◌, Some, is_some};
 ghost use Rattle.std.specs.List.{list_all};
 ghost use Rattle.std.specs.Option.{option_copied};
 ghost use Rattle.og_ir.specs.Reading.{below as number_below};
@@ -85,16 +85,43 @@ fn fault_answer(
 ) -> Advance
     ensures { result ≡ said.fault_answer (in_vector sorts.now extents.now cells.now) interface.now number }
 {
-    let Some(kind) = kind_numbered(number) else {
-        return Advance::Stuck(StuckRule::Value);
-    };
-    let Some(place) = fault_place(extents, cells, interface) else {
-        return Advance::Stuck(StuckRule::Value);
-    };
-    if are_held(sorts, extents, cells, interface.variables.as_slice())
-        && are_timers_held(extents, cells, interface.timers.as_slice())
-    {
-        return Advance::Fault(kind, place);
+    let held = are_values_held(sorts, extents, cells, interface);
+    fault_if(
+        held,
+        kind_numbered(number),
+        fault_place(extents, cells, interface),
+    )
+}
+
+/// The variables and the timers hold values of their types.
+fn are_values_held(sorts: &[Sort], extents: &[Extent], cells: &[i64], interface: &Interface) -> bool
+    ensures { result ≡ (said.variables_held (in_vector sorts.now extents.now cells.now) interface.now && said.timers_held (said.number_of extents.now cells.now) interface.now) }
+{
+    if are_held(sorts, extents, cells, interface.variables.as_slice()) {
+        return are_timers_held(extents, cells, interface.timers.as_slice());
+    }
+    false
+}
+
+/// A fault that has a kind and a place, where all values are held.
+fn fault_if(held: bool, kind: Option<FaultKind>, place: Option<Place>) -> Advance
+    ensures { result ≡ said.fault_of held kind place }
+{
+    match kind {
+        None => Advance::Stuck(StuckRule::Value),
+        Some(kind) => match place {
+            None => Advance::Stuck(StuckRule::Value),
+            Some(place) => answer_if(held, Advance::Fault(kind, place)),
+        },
+    }
+}
+
+/// The answer, where all values are held.
+fn answer_if(held: bool, answer: Advance) -> Advance
+    ensures { result ≡ said.answer_if held answer }
+{
+    if held {
+        return answer;
     }
     Advance::Stuck(StuckRule::Value)
 }

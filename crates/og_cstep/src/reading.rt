@@ -43,8 +43,8 @@ impl Machine {
     pub fn cell(&self, global: u32, offset: u32) -> Option<i64>
         ensures { result ≡ number_at (run_of self.now) global offset }
     {
-        let extent = at(self.layout.extents.as_slice(), global as usize)?;
-        cell_in(extent, self.cells.as_slice(), offset)
+        let extents = self.layout.extents.as_slice();
+        cell_of(extents, self.cells.as_slice(), global, offset)
     }
 
     /// A parameter of an incoming signal holds a value of its type, before the signal begins. Parameters count from 0.
@@ -110,6 +110,14 @@ fn duration_of(extents: &[Extent], cells: &[i64], interface: &Interface, timer: 
         None => 0,
         Some(duration) => duration,
     }
+}
+
+/// The cell at an offset in the global of a number.
+fn cell_of(extents: &[Extent], cells: &[i64], global: u32, offset: u32) -> Option<i64>
+    ensures { result ≡ said.cell_of extents.now cells.now global offset }
+{
+    let extent = at(extents, global as usize)?;
+    cell_in(extent, cells, offset)
 }
 
 /// The cell at an offset in a global.

@@ -19,7 +19,7 @@ returns c =
     let small = (loaded m.program m.model m.loads).small in
     let is : c.duration_of.result ≡ duration_of_timer (run_of m) k =
     c.duration_of.ensures
-    ∙ ap (λ xs. unwrap_or (duration_at (number_of c.as_slice-extents.result.now xs) (duration_slot m.interface k)) (pos 0)) c.as_slice.ensures
+    ∙ ap (λ xs. unwrap_or (duration_at (number_of c.as_slice-extents.result.now xs) (duration_slot m.interface k)) (pos 0)) c.as_slice.ensures.value
     ∙ ap (λ (es : List Extent). unwrap_or (duration_at (number_of es m.cells.items) (duration_slot m.interface k)) (pos 0)) c.as_slice-extents.ensures
     ∙ ap (λ (l : Layout). unwrap_or (duration_at (number_of l.extents m.cells.items) (duration_slot m.interface k)) (pos 0)) m.layout_is
     ∙ ap (λ (n : Numbers). unwrap_or (duration_at n (duration_slot m.interface k)) (pos 0)) (numbers_same m.program small m.cells.items m.model.types)

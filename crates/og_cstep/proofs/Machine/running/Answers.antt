@@ -18,7 +18,7 @@ returns c =
     let small = (loaded m.program m.model m.loads).small in
     c.is_not_zero.ensures
     ∙ ap is_not_zero (c.timer_number.ensures
-    ∙ ap (λ xs. timer_number (number_of c.as_slice-extents.result.now xs) m.interface k) c.as_slice.ensures
+    ∙ ap (λ xs. timer_number (number_of c.as_slice-extents.result.now xs) m.interface k) c.as_slice.ensures.value
     ∙ ap (λ (es : List Extent). timer_number (number_of es m.cells.items) m.interface k) c.as_slice-extents.ensures
     ∙ ap (λ (l : Layout). timer_number (number_of l.extents m.cells.items) m.interface k) m.layout_is
     ∙ ap (λ (n : Numbers). timer_number n m.interface k) (numbers_same m.program small m.cells.items m.model.types)

@@ -5,8 +5,8 @@ use Rattle.og_cstep.specs.Answered.{Answers}
 use Rattle.og_cstep.proofs.Advanced.{shown_run}
 use Rattle.og_cstep.proofs.stepping.take_step.Goals as goal
 
-pub returns-clause-moved-in-Some : goal.returns-clause-moved-in-Some
-returns-clause-moved-in-Some c = λ last.
+pub returns-in-Some-clause-moved : goal.returns-in-Some-clause-moved
+returns-in-Some-clause-moved c = λ last.
     let program = c.args.program.now in
     let model = c.args.model.now in
     let old = trees_of program c.args.cells.now.items in
@@ -17,4 +17,4 @@ returns-clause-moved-in-Some c = λ last.
     let id = c.in-Some.event in
     shown_run program model old new from to now last id c.answer_of_event.result
     (subst (λ o. IsStep program model old from new to o) c.in-Some.is c.step.ensures.step)
-    (subst (λ (l : List ℤ). Answers program model (trees_of program l) id to now c.answer_of_event.result) c.as_slice-in-Some.ensures c.answer_of_event.ensures.answers)
+    (subst (λ (l : List ℤ). Answers program model (trees_of program l) id to now c.answer_of_event.result) c.as_slice-cells-in-Some.ensures.value c.answer_of_event.ensures.answers)
