@@ -1,3 +1,3 @@
-pub mod Numbers
-pub mod Trees
+pub mod Vectors
+pub mod Layouts
 pub mod Views

@@ -1,229 +1,120 @@
-//! The cells of a type that hold a value (X.680).
-#![tactic(auto, using(og_names::proofs::Loops::loops, og_cload::proofs::Grown::grown, crate::proofs::Celled::celled, crate::proofs::Writing::writing))]
+//! The cells of a value (X.680), put into a vector.
+#![tactic(auto, using(og_names::proofs::Loops::loops, crate::proofs::Writing::writing))]
 
-ghost use Rattle.std.specs.Prelude.{◌≡◌, ◌++◌, ◌∷◌, pos, map, slice_get, take, drop, ℕ, Some, IfOk, OnOk};
-ghost use Rattle.std.specs.Option.{option_copied, option_map};
-ghost use Rattle.og_types.specs.declared.Sort.TheVariants as sort;
+ghost use Rattle.std.specs.Prelude.{◌≡◌, ◌+◌, ◌<◌, ◌^◌, min, length, pos, replicate, slice_get, slice_set, if◌then◌else◌};
+ghost use Rattle.std.specs.Option.{option_copied};
 ghost use Rattle.og_types.specs.declared.Value.{out-Value};
-ghost use Rattle.og_ir.specs.Cells as ir;
 ghost use Rattle.og_ir.specs.Reading as reading;
-ghost use Rattle.og_ccells.specs.Trees.{cells_of};
+ghost use Rattle.og_ccells.specs.Vectors.{overwritten, put_cells};
 ghost use Rattle.og_ccells.specs.Views as view;
 
-use crate::cells::Tree;
-use og_cload::fields::count_of;
-use og_names::NoMemory;
+use crate::numbers::behind;
+use crate::types::{width_parts, width_within};
 use og_types::{Part, Sort, TypeId, Value};
-use sqlite_items::{Items, at};
-use std::alloc::Global;
+use sqlite_items::at;
 
-/// The cells of a value of a type, with 0 in cells that it does not use. A value of another kind leaves them 0.
-pub fn tree_of_value(
-    alloc: Global,
-    sorts: &[Sort],
-    sort: TypeId,
-    value: &Value,
-) -> Result<Tree, NoMemory>
-    ensures { IfOk result (λ tree. cells_of tree ≡ reading.cells_of sorts.now sort value.now) }
+/// Puts the cells of a value of a type into a vector from a place on, with 0 in cells that the value does not use.
+pub fn write_value(sorts: &[Sort], sort: TypeId, value: &Value, cells: &mut Vec<i64>, place: usize)
+    ensures { cells.new.items ≡ put_cells place (reading.cells_of sorts.now sort value.now) cells.old.items }
 {
-    let tree = write_within(alloc, sort.0 as usize + 1, sorts, sort, value)?;
-    Ok(tree)
+    write_within(sort.0 as usize + 1, sorts, sort, value, cells, place);
 }
 
-/// A row of one part.
-fn single(alloc: Global, first: Tree) -> Result<Tree, NoMemory>
-    ensures { IfOk result (λ tree. cells_of tree ≡ ir.Both (cells_of first) ir.Empty) }
+/// The place behind so many cells, or the end of the vector.
+fn place_behind(cells: &Vec<i64>, at: usize, width: usize) -> usize
+    ensures place { result ≡ min (at + width) (length cells.now.items) }
+    ensures fits { length cells.now.items < 2 ^ 64 }
 {
-    let mut trees = Items::new(alloc);
-    trees.push(first)?;
-    Ok(Tree::Row(trees))
+    behind(cells.as_slice(), at, width)
 }
 
-/// A row of two parts.
-fn pair(alloc: Global, first: Tree, second: Tree) -> Result<Tree, NoMemory>
-    ensures { IfOk result (λ tree. cells_of tree ≡ ir.Both (cells_of first) (ir.Both (cells_of second) ir.Empty)) }
+/// Puts a number at a place, if the vector has it.
+fn put_number(cells: &mut Vec<i64>, at: usize, number: i64)
+    ensures { cells.new.items ≡ slice_set cells.old.items at number }
 {
-    let mut trees = Items::new(alloc);
-    trees.push(first)?;
-    trees.push(second)?;
-    Ok(Tree::Row(trees))
-}
-
-/// A type whose types lie at most so deep in one another, each cell 0.
-#[cycle(zero)]
-fn zero_within(alloc: Global, depth: usize, sorts: &[Sort], sort: TypeId) -> Result<Tree, NoMemory>
-    ensures { IfOk result (λ tree. cells_of tree ≡ reading.blank_within depth sorts.now sort) }
-{
-    if depth == 0 {
-        return Ok(Tree::Row(Items::new(alloc)));
-    }
-    match at(sorts, sort.0 as usize) {
-        None => Ok(Tree::Row(Items::new(alloc))),
-        Some(found) => {
-            let tree = zero_sort(alloc, depth - 1, sorts, found)?;
-            Ok(tree)
-        }
+    if at < cells.len() {
+        cells[at] = number;
     }
 }
 
-#[cycle(zero)]
-fn zero_sort(alloc: Global, depth: usize, sorts: &[Sort], found: &Sort) -> Result<Tree, NoMemory>
-    ensures { IfOk result (λ tree. cells_of tree ≡ reading.blank_sort (reading.blank_within depth sorts.now) found.now) }
+/// Puts 0 into so many cells.
+fn clear(cells: &mut Vec<i64>, at: usize, width: usize)
+    ensures cleared { cells.new.items ≡ overwritten at (replicate width (pos 0)) cells.old.items }
+    ensures fits { length cells.old.items < 2 ^ 64 }
 {
-    match found {
-        Sort::Int { .. } => Ok(Tree::Cell(0)),
-        Sort::Bool => Ok(Tree::Cell(0)),
-        Sort::Enumerated { .. } => Ok(Tree::Cell(0)),
-        Sort::Sequence { parts } => zero_sequence(alloc, depth, sorts, parts.as_slice()),
-        Sort::Choice { parts } => choice_of_zeros(alloc, depth, sorts, parts.as_slice(), 0),
-        Sort::SeqOf { hi, item, .. } => zero_seq_of(alloc, depth, sorts, *hi, *item),
-        Sort::Opaque => Ok(Tree::Row(Items::new(alloc))),
+    let end = place_behind(cells, at, width);
+    for place in at..end {
+        cells[place] = 0;
     }
 }
 
-#[cycle(zero)]
-fn zero_sequence(
-    alloc: Global,
-    depth: usize,
-    sorts: &[Sort],
-    parts: &[Part],
-) -> Result<Tree, NoMemory>
-    ensures { IfOk result (λ tree. cells_of tree ≡ view.zero_sequence (reading.blank_within depth sorts.now) parts.now) }
+/// Puts 0 into the number and all alternatives of a choice.
+fn clear_choice(depth: usize, sorts: &[Sort], parts: &[Part], cells: &mut Vec<i64>, place: usize)
+    ensures { cells.new.items ≡ put_cells place (view.zero_choice (reading.blank_within depth sorts.now) parts.now) cells.old.items }
 {
-    if parts.is_empty() {
-        return Ok(Tree::Cell(0));
-    }
-    let mut trees = Items::new(alloc);
-    zero_parts(alloc, depth, sorts, parts, &mut trees)?;
-    Ok(Tree::Row(trees))
+    let first = place_behind(cells, place, 1);
+    put_number(cells, place, 0);
+    clear(cells, first, width_parts(depth, sorts, parts));
 }
 
-/// Adds the cells of parts, each of them 0.
-#[cycle(zero)]
-fn zero_parts(
-    alloc: Global,
-    depth: usize,
-    sorts: &[Sort],
-    parts: &[Part],
-    trees: &mut Items<Tree>,
-) -> Result<(), NoMemory>
-    ensures { OnOk result (map cells_of trees.new ≡ map cells_of trees.old ++ map (λ p. reading.blank_within depth sorts.now p.sort) parts.now) }
-{
-    for part in parts {
-        let tree = zero_within(alloc, depth, sorts, part.sort)?;
-        trees.push(tree)?;
-    }
-    Ok(())
-}
-
-/// A number, and alternatives whose cells are 0.
-#[cycle(zero)]
-fn number_and_zeros(
-    alloc: Global,
-    depth: usize,
-    sorts: &[Sort],
-    parts: &[Part],
-    number: u32,
-) -> Result<Items<Tree>, NoMemory>
-    ensures { IfOk result (λ trees. map cells_of trees ≡ ir.Cell (pos number) ∷ map (λ p. reading.blank_within depth sorts.now p.sort) parts.now) }
-{
-    let mut trees = Items::new(alloc);
-    trees.push(Tree::Cell(i64::from(number)))?;
-    zero_parts(alloc, depth, sorts, parts, &mut trees)?;
-    Ok(trees)
-}
-
-#[cycle(zero)]
-fn choice_of_zeros(
-    alloc: Global,
-    depth: usize,
-    sorts: &[Sort],
-    parts: &[Part],
-    number: u32,
-) -> Result<Tree, NoMemory>
-    ensures { IfOk result (λ tree. cells_of tree ≡ ir.Both (ir.Cell (pos number)) (ir.row (map (λ p. reading.blank_within depth sorts.now p.sort) parts.now))) }
-{
-    let trees = number_and_zeros(alloc, depth, sorts, parts, number)?;
-    Ok(Tree::Row(trees))
-}
-
-#[cycle(zero)]
-fn zero_seq_of(
-    alloc: Global,
+/// Puts 0 into the length and all items of a sequence of one type.
+fn clear_seq_of(
     depth: usize,
     sorts: &[Sort],
     hi: u32,
     item: TypeId,
-) -> Result<Tree, NoMemory>
-    ensures { IfOk result (λ tree. cells_of tree ≡ view.zero_seq_of (reading.blank_within depth sorts.now item) hi) }
+    cells: &mut Vec<i64>,
+    place: usize,
+)
+    ensures { cells.new.items ≡ put_cells place (view.zero_seq_of (reading.blank_within depth sorts.now) 0 hi item) cells.old.items }
 {
-    if hi == 0 {
-        return single(alloc, Tree::Cell(0));
-    }
-    let array = zero_array(alloc, depth, sorts, hi, item)?;
-    pair(alloc, Tree::Cell(0), array)
-}
-
-#[cycle(zero)]
-fn zero_array(
-    alloc: Global,
-    depth: usize,
-    sorts: &[Sort],
-    hi: u32,
-    item: TypeId,
-) -> Result<Tree, NoMemory>
-    ensures { IfOk result (λ tree. cells_of tree ≡ ir.equal_parts hi (reading.blank_within depth sorts.now item)) }
-{
-    let mut trees = Items::new(alloc);
-    for place in 0..hi {
-        let tree = zero_within(alloc, depth, sorts, item)?;
-        trees.push(tree)?;
-    }
-    Ok(Tree::Row(trees))
+    let first = place_behind(cells, place, 1);
+    put_number(cells, place, 0);
+    let width = width_within(depth, sorts, item);
+    clear(cells, first, width.saturating_mul(hi as usize));
 }
 
 /// The number of an integer.
-fn integer(value: &Value) -> Tree
-    ensures { cells_of result ≡ view.integer (out-Value value.now) }
+fn integer(value: &Value) -> i64
+    ensures { result ≡ view.integer (out-Value value.now) }
 {
     match value {
-        Value::Int(number) => Tree::Cell(*number),
-        Value::Bool(_) => Tree::Cell(0),
-        Value::Enumerated(_) => Tree::Cell(0),
-        Value::Sequence(_) => Tree::Cell(0),
-        Value::Choice(_, _) => Tree::Cell(0),
-        Value::SeqOf(_) => Tree::Cell(0),
+        Value::Int(number) => *number,
+        Value::Bool(_) => 0,
+        Value::Enumerated(_) => 0,
+        Value::Sequence(_) => 0,
+        Value::Choice(_, _) => 0,
+        Value::SeqOf(_) => 0,
     }
 }
 
 /// FALSE is 0, and TRUE is 1.
-fn truth(value: &Value) -> Tree
-    ensures { cells_of result ≡ view.truth (out-Value value.now) }
+fn truth(value: &Value) -> i64
+    ensures { result ≡ view.truth (out-Value value.now) }
 {
     match value {
-        Value::Int(_) => Tree::Cell(0),
-        Value::Bool(holds) => { if *holds { Tree::Cell(1) } else { Tree::Cell(0) } }
-        Value::Enumerated(_) => Tree::Cell(0),
-        Value::Sequence(_) => Tree::Cell(0),
-        Value::Choice(_, _) => Tree::Cell(0),
-        Value::SeqOf(_) => Tree::Cell(0),
+        Value::Int(_) => 0,
+        Value::Bool(holds) => { if *holds { 1 } else { 0 } }
+        Value::Enumerated(_) => 0,
+        Value::Sequence(_) => 0,
+        Value::Choice(_, _) => 0,
+        Value::SeqOf(_) => 0,
     }
 }
 
 /// The place of an enumerator.
-fn enumerator(value: &Value) -> Tree
-    ensures { cells_of result ≡ view.enumerator (out-Value value.now) }
+fn enumerator(value: &Value) -> i64
+    ensures { result ≡ view.enumerator (out-Value value.now) }
 {
     match value {
-        Value::Int(_) => Tree::Cell(0),
-        Value::Bool(_) => Tree::Cell(0),
-        Value::Enumerated(place) => Tree::Cell(i64::from(*place)),
-        Value::Sequence(_) => Tree::Cell(0),
-        Value::Choice(_, _) => Tree::Cell(0),
-        Value::SeqOf(_) => Tree::Cell(0),
+        Value::Int(_) => 0,
+        Value::Bool(_) => 0,
+        Value::Enumerated(place) => i64::from(*place),
+        Value::Sequence(_) => 0,
+        Value::Choice(_, _) => 0,
+        Value::SeqOf(_) => 0,
     }
 }
-
 /// The values of a sequence's parts.
 fn parts_of(value: &Value) -> Option<&[Value]>
     ensures { option_copied result ≡ view.parts_of (out-Value value.now) }
@@ -280,197 +171,226 @@ fn items_of(value: &Value) -> Option<&[Value]>
     }
 }
 
-/// The cells of a value, going down at most so many times.
-#[cycle(written)]
+fn length_of(values: &[Value]) -> i64
+    ensures { result ≡ pos (length values.now) }
+{
+    values.len() as i64
+}
+
+/// Puts the cells of a value, going down at most so many times.
+#[cycle(write)]
 fn write_within(
-    alloc: Global,
     depth: usize,
     sorts: &[Sort],
     sort: TypeId,
     value: &Value,
-) -> Result<Tree, NoMemory>
-    ensures { IfOk result (λ tree. cells_of tree ≡ reading.write_within depth sorts.now sort value.now) }
+    cells: &mut Vec<i64>,
+    place: usize,
+)
+    ensures { cells.new.items ≡ put_cells place (reading.write_within depth sorts.now sort value.now) cells.old.items }
 {
     if depth == 0 {
-        return Ok(Tree::Row(Items::new(alloc)));
+        return;
     }
-    match at(sorts, sort.0 as usize) {
-        None => Ok(Tree::Row(Items::new(alloc))),
-        Some(found) => {
-            let tree = write_sort(alloc, depth - 1, sorts, found, value)?;
-            Ok(tree)
-        }
+    if let Some(found) = at(sorts, sort.0 as usize) {
+        write_sort(depth - 1, sorts, found, value, cells, place);
     }
 }
 
-#[cycle(written)]
+#[cycle(write)]
 fn write_sort(
-    alloc: Global,
     depth: usize,
     sorts: &[Sort],
-    found: &Sort,
+    sort: &Sort,
     value: &Value,
-) -> Result<Tree, NoMemory>
-    ensures { IfOk result (λ tree. cells_of tree ≡ reading.write_sort (reading.blank_within depth sorts.now) (reading.write_within depth sorts.now) found.now (out-Value value.now)) }
+    cells: &mut Vec<i64>,
+    place: usize,
+)
+    ensures { cells.new.items ≡ put_cells place (reading.write_sort (reading.blank_within depth sorts.now) (reading.write_within depth sorts.now) sort.now (out-Value value.now)) cells.old.items }
 {
-    match found {
-        Sort::Int { .. } => Ok(integer(value)),
-        Sort::Bool => Ok(truth(value)),
-        Sort::Enumerated { .. } => Ok(enumerator(value)),
-        Sort::Sequence { parts } => write_sequence(alloc, depth, sorts, parts.as_slice(), value),
-        Sort::Choice { parts } => write_choice(alloc, depth, sorts, parts.as_slice(), value),
-        Sort::SeqOf { hi, item, .. } => write_seq_of(alloc, depth, sorts, *hi, *item, value),
-        Sort::Opaque => Ok(Tree::Row(Items::new(alloc))),
+    match sort {
+        Sort::Int { .. } => put_number(cells, place, integer(value)),
+        Sort::Bool => put_number(cells, place, truth(value)),
+        Sort::Enumerated { .. } => put_number(cells, place, enumerator(value)),
+        Sort::Sequence { parts } => {
+            let values = parts_of(value);
+            write_sequence(depth, sorts, parts.as_slice(), values, cells, place);
+        }
+        Sort::Choice { parts } => {
+            let number = number_of_choice(value);
+            let inner = chosen(value);
+            write_choice(depth, sorts, parts.as_slice(), number, inner, cells, place);
+        }
+        Sort::SeqOf { hi, item, .. } => {
+            let values = items_of(value);
+            write_seq_of(depth, sorts, *hi, *item, values, cells, place);
+        }
+        Sort::Opaque => {}
     }
 }
 
-#[cycle(written)]
+/// A sequence without parts is one number.
+#[cycle(write)]
 fn write_sequence(
-    alloc: Global,
     depth: usize,
     sorts: &[Sort],
     parts: &[Part],
-    value: &Value,
-) -> Result<Tree, NoMemory>
-    ensures { IfOk result (λ tree. cells_of tree ≡ view.sequence (reading.blank_within depth sorts.now) (reading.write_within depth sorts.now) parts.now (view.parts_of (out-Value value.now))) }
+    values: Option<&[Value]>,
+    cells: &mut Vec<i64>,
+    place: usize,
+)
+    ensures { cells.new.items ≡ put_cells place (view.sequence (reading.blank_within depth sorts.now) (reading.write_within depth sorts.now) parts.now (option_copied values.entry)) cells.old.items }
 {
-    match parts_of(value) {
-        None => zero_sequence(alloc, depth, sorts, parts),
-        Some(values) => {
-            if parts.is_empty() {
-                return Ok(Tree::Cell(0));
-            }
-            let tree = write_parts(alloc, depth, sorts, parts, values)?;
-            Ok(tree)
-        }
+    if parts.is_empty() {
+        return put_number(cells, place, 0);
+    }
+    match values {
+        None => clear(cells, place, width_parts(depth, sorts, parts)),
+        Some(values) => write_parts(depth, sorts, parts, values, cells, place),
     }
 }
 
 /// The value at a place, or 0 where there is none.
-#[cycle(written)]
+#[cycle(write)]
 fn write_at(
-    alloc: Global,
     depth: usize,
     sorts: &[Sort],
     sort: TypeId,
     values: &[Value],
+    number: usize,
+    cells: &mut Vec<i64>,
     place: usize,
-) -> Result<Tree, NoMemory>
-    ensures { IfOk result (λ tree. cells_of tree ≡ view.written_or (reading.blank_within depth sorts.now sort) (reading.write_within depth sorts.now sort) (slice_get values.now place)) }
+)
+    ensures { cells.new.items ≡ put_cells place (view.written_or (reading.blank_within depth sorts.now sort) (reading.write_within depth sorts.now sort) (slice_get values.now number)) cells.old.items }
 {
-    match at(values, place) {
-        None => {
-            let tree = zero_within(alloc, depth, sorts, sort)?;
-            Ok(tree)
-        }
-        Some(value) => {
-            let tree = write_within(alloc, depth, sorts, sort, value)?;
-            Ok(tree)
-        }
+    match at(values, number) {
+        None => clear(cells, place, width_within(depth, sorts, sort)),
+        Some(value) => write_within(depth, sorts, sort, value, cells, place),
     }
 }
 
-#[cycle(written)]
+#[cycle(write)]
 fn write_parts(
-    alloc: Global,
     depth: usize,
     sorts: &[Sort],
     parts: &[Part],
     values: &[Value],
-) -> Result<Tree, NoMemory>
-    ensures { IfOk result (λ tree. cells_of tree ≡ reading.write_parts (reading.blank_within depth sorts.now) (reading.write_within depth sorts.now) parts.now values.now) }
+    cells: &mut Vec<i64>,
+    place: usize,
+)
+    ensures { cells.new.items ≡ put_cells place (reading.write_parts (reading.blank_within depth sorts.now) (reading.write_within depth sorts.now) parts.now values.now) cells.old.items }
 {
-    let mut trees = Items::new(alloc);
-    for (place, part) in parts.iter().enumerate() {
-        let tree = write_at(alloc, depth, sorts, part.sort, values, place)?;
-        trees.push(tree)?;
+    let mut at = place;
+    for (number, part) in parts.iter().enumerate() {
+        write_at(depth, sorts, part.sort, values, number, cells, at);
+        at = place_behind(cells, at, width_within(depth, sorts, part.sort));
     }
-    Ok(Tree::Row(trees))
 }
 
-#[cycle(written)]
+/// The number of an alternative, its value, and 0 in the others.
+#[cycle(write)]
 fn write_choice(
-    alloc: Global,
     depth: usize,
     sorts: &[Sort],
     parts: &[Part],
-    value: &Value,
-) -> Result<Tree, NoMemory>
-    ensures { IfOk result (λ tree. cells_of tree ≡ view.choice (reading.blank_within depth sorts.now) (reading.write_within depth sorts.now) parts.now (view.number_of_choice (out-Value value.now)) (view.chosen (out-Value value.now))) }
+    number: Option<u32>,
+    value: Option<&Value>,
+    cells: &mut Vec<i64>,
+    place: usize,
+)
+    ensures { cells.new.items ≡ put_cells place (view.choice (reading.blank_within depth sorts.now) (reading.write_within depth sorts.now) parts.now number (option_copied value.entry)) cells.old.items }
 {
-    let Some(number) = number_of_choice(value) else {
-        return choice_of_zeros(alloc, depth, sorts, parts, 0);
-    };
-    let Some(inner) = chosen(value) else {
-        return choice_of_zeros(alloc, depth, sorts, parts, 0);
-    };
-    match at(parts, number as usize) {
-        None => choice_of_zeros(alloc, depth, sorts, parts, number),
-        Some(part) => write_alternative(alloc, depth, sorts, parts, number, part.sort, inner),
+    match number {
+        None => clear_choice(depth, sorts, parts, cells, place),
+        Some(number) => match value {
+            None => clear_choice(depth, sorts, parts, cells, place),
+            Some(value) => {
+                let first = place_behind(cells, place, 1);
+                put_number(cells, place, i64::from(number));
+                write_alternatives(depth, sorts, parts, number as usize, value, cells, first);
+            }
+        },
     }
 }
 
-/// The number of an alternative of this type, its value, and 0 in the others.
-#[cycle(written)]
-fn write_alternative(
-    alloc: Global,
+#[cycle(write)]
+fn write_alternatives(
     depth: usize,
     sorts: &[Sort],
     parts: &[Part],
-    number: u32,
-    sort: TypeId,
+    chosen: usize,
     value: &Value,
-) -> Result<Tree, NoMemory>
-    requires { option_map (λ p. p.sort) (slice_get parts.now number) ≡ Some sort }
-    ensures { IfOk result (λ tree. cells_of tree ≡ ir.Both (ir.Cell (pos number)) (reading.write_alternatives (reading.blank_within depth sorts.now) (reading.write_within depth sorts.now) parts.now number value.now)) }
+    cells: &mut Vec<i64>,
+    place: usize,
+)
+    ensures { cells.new.items ≡ put_cells place (reading.write_alternatives (reading.blank_within depth sorts.now) (reading.write_within depth sorts.now) parts.now chosen value.now) cells.old.items }
 {
-    let place = number as usize;
-    let (front, _) = parts.split_at(place);
-    let (_, behind) = parts.split_at(place + 1);
-    let mut trees = number_and_zeros(alloc, depth, sorts, front, number)?;
-    let tree = write_within(alloc, depth, sorts, sort, value)?;
-    trees.push(tree)?;
-    zero_parts(alloc, depth, sorts, behind, &mut trees)?;
-    Ok(Tree::Row(trees))
+    let mut at = place;
+    for (number, part) in parts.iter().enumerate() {
+        write_alternative(depth, sorts, part.sort, number == chosen, value, cells, at);
+        at = place_behind(cells, at, width_within(depth, sorts, part.sort));
+    }
 }
 
-#[cycle(written)]
+/// The value of an alternative that is chosen, or 0.
+#[cycle(write)]
+fn write_alternative(
+    depth: usize,
+    sorts: &[Sort],
+    sort: TypeId,
+    is_chosen: bool,
+    value: &Value,
+    cells: &mut Vec<i64>,
+    place: usize,
+)
+    ensures { cells.new.items ≡ put_cells place (if is_chosen then reading.write_within depth sorts.now sort value.now else reading.blank_within depth sorts.now sort) cells.old.items }
+{
+    if is_chosen {
+        write_within(depth, sorts, sort, value, cells, place);
+    } else {
+        clear(cells, place, width_within(depth, sorts, sort));
+    }
+}
+
+/// The length, and the items with 0 past them.
+#[cycle(write)]
 fn write_seq_of(
-    alloc: Global,
     depth: usize,
     sorts: &[Sort],
     hi: u32,
     item: TypeId,
-    value: &Value,
-) -> Result<Tree, NoMemory>
-    ensures { IfOk result (λ tree. cells_of tree ≡ view.seq_of (reading.blank_within depth sorts.now item) (reading.write_within depth sorts.now item) hi (view.items_of (out-Value value.now))) }
+    values: Option<&[Value]>,
+    cells: &mut Vec<i64>,
+    place: usize,
+)
+    ensures { cells.new.items ≡ put_cells place (view.seq_of (reading.blank_within depth sorts.now) (reading.write_within depth sorts.now) hi item (option_copied values.entry)) cells.old.items }
 {
-    let Some(values) = items_of(value) else {
-        return zero_seq_of(alloc, depth, sorts, hi, item);
-    };
-    let length = count_of(values.len())?;
-    if hi == 0 {
-        return single(alloc, Tree::Cell(i64::from(length)));
+    match values {
+        None => clear_seq_of(depth, sorts, hi, item, cells, place),
+        Some(values) => {
+            let first = place_behind(cells, place, 1);
+            put_number(cells, place, length_of(values));
+            write_items(depth, sorts, hi, item, values, cells, first);
+        }
     }
-    let array = write_items(alloc, depth, sorts, hi, item, values)?;
-    pair(alloc, Tree::Cell(i64::from(length)), array)
 }
 
-#[cycle(written)]
+#[cycle(write)]
 fn write_items(
-    alloc: Global,
     depth: usize,
     sorts: &[Sort],
     hi: u32,
     item: TypeId,
     values: &[Value],
-) -> Result<Tree, NoMemory>
-    ensures { IfOk result (λ tree. cells_of tree ≡ reading.write_items (reading.blank_within depth sorts.now item) (reading.write_within depth sorts.now item) hi values.now) }
+    cells: &mut Vec<i64>,
+    place: usize,
+)
+    ensures { cells.new.items ≡ put_cells place (reading.write_items (reading.blank_within depth sorts.now item) (reading.write_within depth sorts.now item) hi values.now) cells.old.items }
 {
-    let mut trees = Items::new(alloc);
-    for place in 0..hi {
-        let tree = write_at(alloc, depth, sorts, item, values, place as usize)?;
-        trees.push(tree)?;
+    let width = width_within(depth, sorts, item);
+    let mut at = place;
+    for number in 0..hi {
+        write_at(depth, sorts, item, values, number as usize, cells, at);
+        at = place_behind(cells, at, width);
     }
-    Ok(Tree::Row(trees))
 }

@@ -1,6 +1,12 @@
 pub mod Valued
-pub mod Numbered
 pub mod Done
+pub mod Numbered
 pub mod Moving
+pub mod Fallen
+pub mod Alike
+pub mod Walked
+pub mod Spotted
 pub mod SameValues
 pub mod SameSteps
+pub mod Loaded
+pub mod Stepped

@@ -1,17 +1,24 @@
--- A step of a program whose names are numbers is a step of the program.
-use Rattle.std.proofs.Common.{◌≡◌, ℕ, zero, suc, ℤ, List, [], ◌∷◌, map, Bool, true, false, cond, Option, Some, None, Result, Ok, Err, slice_get, refl, sym, ap, ◌∙◌, subst}
+-- A step over the vector of cells is a step over the trees of cells.
+use Rattle.std.proofs.Common.{◌≡◌, ℕ, ℤ, List, [], ◌∷◌, map, length, slice_set, Bool, true, false, cond, Option, Some, None, Result, Ok, Err, slice_get, refl, sym, ap, ◌∙◌, subst, arith}
+use Rattle.std.specs.List.{list_all}
 use Rattle.std.specs.Option.{option_map}
+use Rattle.std.proofs.lemmas.Bool.{false≢true}
+use Rattle.std.proofs.lemmas.Slice.Eq.{bytes_eq-Decides}
+use Rattle.std.proofs.lemmas.Option.{cond_some, slice_get-map}
+use Rattle.og_names.specs.declared.Word.{Word}
 use Rattle.og_model.specs.declared.Model.{Model}
 use Rattle.og_model.specs.declared.EventId.{EventId}
 use Rattle.og_model.specs.Shown as shown
 use Rattle.og_ir.specs.Cells as cells
-use Rattle.og_ir.specs.Cells.{Cells, Cell}
+use Rattle.og_ir.specs.Cells.{Cells, Cell, count}
 use Rattle.og_ir.specs.Arithmetic.{Trouble, Value, ◌>>=◌, or_else, is_same}
 use Rattle.og_ir.specs.FlatSteps.{Spot, cells_at, put}
 use Rattle.og_ir.specs.Steps as steps
-use Rattle.og_ir.specs.Steps.{Frame, Config, Ran, Over, Broken, quiet, with_value, onward, jumped, called, returned, showing}
+use Rattle.og_ir.specs.Steps.{Frame, Config, Ran, quiet, with_value, onward, jumped, called, returned, showing}
 use Rattle.og_csubset.specs.declared.CProgram.{CProgram}
 use Rattle.og_csubset.specs.declared.CFunction.{CFunction}
+use Rattle.og_csubset.specs.declared.CType.{CType}
+use Rattle.og_csubset.specs.declared.CType.TheVariants.{Int64, Struct}
 use Rattle.og_csubset.specs.declared.CStmt.{CStmt}
 use Rattle.og_csubset.specs.declared.CStmt.TheVariants as c
 use Rattle.og_csubset.specs.declared.CCase.{CCase}
@@ -21,82 +28,160 @@ use Rattle.og_csubset.specs.declared.CPlace.{CPlace}
 use Rattle.og_csubset.specs.declared.CExpr.{CExpr, CExpr-F, out-CExpr}
 use Rattle.og_csubset.specs.declared.CExpr.TheOpen as open'
 use Rattle.og_csubset.specs.Interface.{events_of}
-use Rattle.og_csubset.specs.Kinds.{place_in, is_in, global_names, event_names, function_names}
+use Rattle.og_csubset.specs.Kinds.{place_in, is_in, global_names, event_names, function_names, global_kind, type_of_one, same_type, blank_type, width_of, first_globals}
+use Rattle.og_csubset.specs.Loading.{is_number, cells_of_globals, type_of_place, type_of_shape, kind_after, agree, is_typed}
 use Rattle.og_csubset.specs.Reads.{event_of, event_shown, event_named}
 use Rattle.og_csubset.specs.Step as s
-use Rattle.og_csubset.specs.Step.{act, fetched, cstep, label_in}
+use Rattle.og_csubset.specs.Step.{act, fetched, label_in}
+use Rattle.og_csubset.proofs.Steady.{all_at}
+use Rattle.og_names.proofs.Truths.{both_first as left_of, both_second as right_of}
+use Rattle.og_ir.proofs.ValueRead.{bound}
+use Rattle.og_ccells.specs.Layouts.{capped}
+use Rattle.og_ccells.specs.Vectors.{filled, trees_of, numbers_before_path, copied}
+use Rattle.og_ccells.proofs.Filling.{Written}
+use Rattle.og_ccells.proofs.Overwriting.{overwritten_written, copied_written}
+use Rattle.og_ccells.proofs.Globals.{spot_put}
+use Rattle.og_ccells.proofs.Counting.{count_type}
+use Rattle.og_ccells.proofs.Steady.{number_laid}
+use Rattle.og_ccells.proofs.Widths.{most, up_to_small}
 use Rattle.og_cstatement.specs.declared.code.Statement.{Statement}
 use Rattle.og_cstatement.specs.declared.code.Statement.TheVariants as m'
-use Rattle.og_cstatement.specs.declared.position.Position.{Position}
-use Rattle.og_cstatement.specs.declared.position.Position.TheVariants.{Running, Idle, Stuck}
 use Rattle.og_cstatement.specs.Meaning as m
-use Rattle.og_cstatement.specs.Meaning.{Effect, carried, effect_of, effect_at, effect_there, place_of_case, branched, switched, assigned, copied}
-use Rattle.og_cstatement.specs.Effects as effects
-use Rattle.og_cstatement.specs.Effects.{KeptIfStuck, after, event_after, next_config, next_event}
-use Rattle.og_cstatement.specs.Positions.{frame_of, config_of}
-use Rattle.og_cstatement.specs.Resolved.{place_read, expression_of, place_of, case_of, assignment_of, call_of, statement_of, body_of}
-use Rattle.og_cstatement.specs.Links.{linked_of, step_of, cells_after, IsStep}
-use Rattle.og_cstatement.proofs.SameValues.{same_value, same_spot, same_test}
+use Rattle.og_cstatement.specs.Meaning.{Effect, effect_of, effect_at, effect_there, place_of_case, branched, switched}
+use Rattle.og_cstatement.specs.Resolved.{place_read, place_of, path_of, all_kind, width_in, width_at, case_of, assignment_of, call_of, statement_of, body_of}
+use Rattle.og_cstatement.specs.Links.{linked_of, step_of}
+use Rattle.og_cstatement.proofs.Alike.{Alike}
+use Rattle.og_cstatement.proofs.Walked.{kind_led}
+use Rattle.og_cstatement.proofs.Spotted.{Fits, Lands, shapes, lands_inside, unsized}
+use Rattle.og_cstatement.proofs.SameValues.{cells_there, same_value, same_test, same_spot}
 
-get_map : {A B : Type 0} (f : A → B) (xs : List A) (k : ℕ) → slice_get (map f xs) k ≡ option_map f (slice_get xs k)
-get_map f [] zero = refl
-get_map f [] (suc k) = refl
-get_map f (x ∷ xs) zero = refl
-get_map f (x ∷ xs) (suc k) = get_map f xs k
+-- ---- types that agree
 
-module _ (P : CProgram) (M : Model) (G : List Cells) (frame : Frame) (callers : List Frame) where
+same_is : (t u : CType) → same_type t u ≡ true → t ≡ u
+same_is Int64 Int64 h = refl
+same_is Int64 (Struct name) h = absurd (false≢true h)
+same_is (Struct name) Int64 h = absurd (false≢true h)
+same_is (Struct name) (Struct other) h =
+    ap (λ (bytes : List ℕ). let w : Word = record { bytes = bytes } in Struct w) ((bytes_eq-Decides name.bytes other.bytes).0 h)
+
+agreed : (o p : Option CType) → agree o p ≡ true → (t : CType) × (o ≡ Some t) × (p ≡ Some t)
+agreed None p h = absurd (false≢true h)
+agreed (Some t) None h = absurd (false≢true h)
+agreed (Some t) (Some u) h = (t, refl, ap Some (sym (same_is t u h)))
+
+-- a number is of the type of numbers
+agreed_number : (o : Option CType) (b : Bool) → agree o (cond b (Some Int64) None) ≡ true → (b ≡ true) × (o ≡ Some Int64)
+agreed_number o b h =
+    let both = agreed o (cond b (Some Int64) None) h in
+    let number = cond_some b Int64 both.0 both.2 in
+    (number.0, both.1 ∙ ap Some (sym number.1))
+
+-- ---- cells that are put
+
+module _ (P : CProgram) (xs : List ℤ) (fits : Fits P) (whole : length xs ≡ cells_of_globals P) where
+  number_put : (spot : Spot) (at : ℕ) (z : ℤ) → Lands P Int64 spot at → put (trees_of P xs) spot (Cell z) ≡ trees_of P (slice_set xs at z)
+  unfolding trees_of
+  number_put spot at z lands =
+      let one : count (blank_type P.structs Int64) ≡ 1 = ap count (number_laid P.structs) in
+      let inside = lands_inside P Int64 spot at lands in
+      let written : Written xs (slice_set xs at z) (z ∷ []) at 0 1 = overwritten_written (z ∷ []) xs at (omega (arith, inside, one, whole)) in
+      let place = numbers_before_path (spot.base ∷ spot.path) (shapes P) in
+      let W : ℕ → ℕ → Type 0 = λ k width. Written xs (slice_set xs at z) (z ∷ []) k 0 width in
+      ap (λ c. put (trees_of P xs) spot (filled 0 c (z ∷ []))) (sym (number_laid P.structs))
+      ∙ spot_put (first_globals P) xs (slice_set xs at z) (z ∷ []) spot.base spot.path (blank_type P.structs Int64) 0 lands.there
+      (subst (λ width. W place width) (sym one) (subst (λ k. W k 1) (sym lands.at_is) written))
+
+  cells_put : (t : CType) (spot : Spot) (at source width : ℕ) (from : Spot) → Lands P t spot at → Lands P t from source → width ≡ capped (width_of P.structs t)
+      → put (trees_of P xs) spot (filled source (blank_type P.structs t) xs) ≡ trees_of P (copied at source width xs)
+  unfolding trees_of
+  cells_put t spot at source width from lands led is =
+      let count_is = count_type P.structs t in
+      let inside = lands_inside P t spot at lands in
+      let there = lands_inside P t from source led in
+      let small = fits.small in
+      let width_is : width ≡ count (blank_type P.structs t) = is ∙ up_to_small most (width_of P.structs t) (omega (arith, inside, count_is, small)) ∙ sym count_is in
+      let written : Written xs (copied at source width xs) xs at source width = copied_written xs at source width (omega (arith, inside, width_is, whole)) (omega (arith, there, width_is, whole)) in
+      let place = numbers_before_path (spot.base ∷ spot.path) (shapes P) in
+      let W : ℕ → ℕ → Type 0 = λ k n. Written xs (copied at source width xs) xs k source n in
+      spot_put (first_globals P) xs (copied at source width xs) xs spot.base spot.path (blank_type P.structs t) source lands.there
+      (subst (λ n. W place n) width_is (subst (λ k. W k width) (sym lands.at_is) written))
+
+-- how many cells stand at a place of a type
+width_there : (P : CProgram) (place : CPlace) (t : CType) → type_of_place P place ≡ Some t → width_at P place ≡ capped (width_of P.structs t)
+width_there P place t e =
+    let kind = bound (global_kind P place.name.bytes) _ t e in
+    let last = bound (kind_after (is_number P) P.structs kind.value place.path) type_of_one t kind.gives in
+    ap (λ k. width_in P (all_kind (path_of P place.path) k)) kind.is
+    ∙ ap (width_in P) (kind_led P (is_number P) place.path kind.value last.value last.is ∙ ap Some (unsized last.value.type t last.value.size last.gives))
+
+module _ (P : CProgram) (M : Model) (xs : List ℤ) (fits : Fits P) (whole : length xs ≡ cells_of_globals P) (frame : Frame) (callers : List Frame) where
   -- what a call of an event shows
-  abbrev pub shows : EventId → List Cells → Option shown.Event
-  shows id globals = event_shown M (record { names = global_names P; cells = globals }) id
+  abbrev pub shows : EventId → Option shown.Event
+  shows id = event_shown M (record { names = global_names P; cells = trees_of P xs }) id
+
+  abbrev pub ran : Effect → Ran shown.Event
+  ran m.Onward = quiet (steps.Running (trees_of P xs) (onward frame) callers)
+  ran (m.At place) = quiet (steps.Running (trees_of P xs) (jumped frame place) callers)
+  ran (m.Put at z) = quiet (steps.Running (trees_of P (slice_set xs at z)) (onward frame) callers)
+  ran (m.Copy to from width) = quiet (steps.Running (trees_of P (copied to from width xs)) (onward frame) callers)
+  ran (m.Enter function) = called (trees_of P xs) frame callers function
+  ran (m.Show id) = showing (shows id) (trees_of P xs) frame callers
+  ran m.Back = returned (trees_of P xs) callers
 
   abbrev pub does : Result Effect Trouble → Ran shown.Event
-  does r = with_value r (carried shows G frame callers)
+  does r = with_value r ran
+
+  abbrev G : List Cells
+  G = trees_of P xs
 
   -- ---- assignments
 
-  put_number : (r : Result Spot Trouble) (v : Result ℤ Trouble)
+  put_number : (r : Result Spot Trouble) (p : Result ℕ Trouble) (v : Result ℤ Trouble) → Alike (Lands P Int64) r p
       → with_value r (λ spot. with_value (v >>= λ z. Ok (Cell z)) (λ x. quiet (steps.Running (put G spot x) (onward frame) callers)))
-      ≡ does (r >>= λ spot. v >>= λ z. Ok (m.Put spot (Cell z)))
-  put_number (Err t) v = refl
-  put_number (Ok spot) (Err t) = refl
-  put_number (Ok spot) (Ok z) = refl
+      ≡ does (p >>= λ at. v >>= λ z. Ok (m.Put at z))
+  put_number (Err t) (Err u) v h = ap (λ x. quiet (steps.Broken x)) h
+  put_number (Err t) (Ok at) v h = absurd h
+  put_number (Ok spot) (Err u) v h = absurd h
+  put_number (Ok spot) (Ok at) (Err t) h = refl
+  put_number (Ok spot) (Ok at) (Ok z) h = ap (λ g. quiet (steps.Running g (onward frame) callers)) (number_put P xs fits whole spot at z h)
 
-  put_found : (spot : Spot) (r : Result Cells Trouble)
-      → with_value r (λ x. quiet (steps.Running (put G spot x) (onward frame) callers)) ≡ does (r >>= λ x. Ok (m.Put spot x))
-  put_found spot (Err t) = refl
-  put_found spot (Ok x) = refl
+  put_cells : (t : CType) (width : ℕ) → width ≡ capped (width_of P.structs t) → (r q : Result Spot Trouble) (p source : Result ℕ Trouble) → Alike (Lands P t) r p → Alike (Lands P t) q source
+      → with_value r (λ spot. with_value (q >>= cells_at G) (λ x. quiet (steps.Running (put G spot x) (onward frame) callers)))
+      ≡ does (p >>= λ at. source >>= λ k. Ok (m.Copy at k width))
+  put_cells t width is (Err t') q (Err u) source h k = ap (λ x. quiet (steps.Broken x)) h
+  put_cells t width is (Err t') q (Ok at) source h k = absurd h
+  put_cells t width is (Ok spot) q (Err u) source h k = absurd h
+  put_cells t width is (Ok spot) (Err t') (Ok at) (Err u) h k = ap (λ x. quiet (steps.Broken x)) k
+  put_cells t width is (Ok spot) (Err t') (Ok at) (Ok source) h k = absurd k
+  put_cells t width is (Ok spot) (Ok from) (Ok at) (Err u) h k = absurd k
+  put_cells t width is (Ok spot) (Ok from) (Ok at) (Ok source) h k =
+      ap (λ r. with_value r (λ x. quiet (steps.Running (put G spot x) (onward frame) callers))) (cells_there P xs t from source k)
+      ∙ ap (λ g. quiet (steps.Running g (onward frame) callers)) (cells_put P xs fits whole t spot at source width from h k is)
 
-  put_cells : (r source : Result Spot Trouble)
-      → with_value r (λ spot. with_value (source >>= cells_at G) (λ x. quiet (steps.Running (put G spot x) (onward frame) callers)))
-      ≡ does (r >>= λ spot. source >>= λ place. cells_at G place >>= λ x. Ok (m.Put spot x))
-  put_cells (Err t) source = refl
-  put_cells (Ok spot) (Err t) = refl
-  put_cells (Ok spot) (Ok place) = put_found spot (cells_at G place)
-
-  number_same : (place : CPlace) (a : CExpr)
+  number_same : (place : CPlace) (a : CExpr) → agree (type_of_place P place) (cond (is_number P a) (Some Int64) None) ≡ true
       → with_value (s.spot_of P G place) (λ spot. with_value (s.value_of P G a >>= λ z. Ok (Cell z)) (λ x. quiet (steps.Running (put G spot x) (onward frame) callers)))
-      ≡ does (effect_of G (assignment_of P place a None))
-  number_same place a =
-      put_number (s.spot_of P G place) (s.value_of P G a)
-      ∙ sym (ap (λ r. does (r >>= λ spot. m.value_of G (expression_of P a) >>= λ z. Ok (m.Put spot (Cell z)))) (same_spot P G place)
-      ∙ ap (λ v. does (s.spot_of P G place >>= λ spot. v >>= λ z. Ok (m.Put spot (Cell z)))) (same_value P G a))
+      ≡ does (effect_of xs (assignment_of P place a None))
+  number_same place a h =
+      let both = agreed_number (type_of_place P place) (is_number P a) h in
+      put_number (s.spot_of P G place) (m.place_of xs (place_of P place)) (s.value_of P G a) (same_spot P xs fits place Int64 both.1)
+      ∙ ap (λ v. does (m.place_of xs (place_of P place) >>= λ at. v >>= λ z. Ok (m.Put at z))) (same_value P xs fits a both.0)
 
-  cells_same : (place from : CPlace) (a : CExpr)
+  cells_same : (place from : CPlace) (a : CExpr) → agree (type_of_place P place) (type_of_place P from) ≡ true
       → with_value (s.spot_of P G place) (λ spot. with_value (s.spot_of P G from >>= cells_at G) (λ x. quiet (steps.Running (put G spot x) (onward frame) callers)))
-      ≡ does (effect_of G (assignment_of P place a (Some from)))
-  cells_same place from a =
-      put_cells (s.spot_of P G place) (s.spot_of P G from)
-      ∙ sym (ap (λ r. does (r >>= λ spot. m.spot_of G (place_of P from) >>= λ source. cells_at G source >>= λ x. Ok (m.Put spot x))) (same_spot P G place)
-      ∙ ap (λ v. does (s.spot_of P G place >>= λ spot. v >>= λ source. cells_at G source >>= λ x. Ok (m.Put spot x))) (same_spot P G from))
+      ≡ does (effect_of xs (assignment_of P place a (Some from)))
+  cells_same place from a h =
+      let both = agreed (type_of_place P place) (type_of_place P from) h in
+      put_cells both.0 (width_at P place) (width_there P place both.0 both.1) (s.spot_of P G place) (s.spot_of P G from) (m.place_of xs (place_of P place)) (m.place_of xs (place_of P from))
+      (same_spot P xs fits place both.0 both.1) (same_spot P xs fits from both.0 both.2)
 
-  assign_same : (place : CPlace) (a : CExpr) (shape : CExpr-F CExpr CStep CPlace CTest)
+  assign_same : (place : CPlace) (a : CExpr) (shape : CExpr-F CExpr CStep CPlace CTest) → agree (type_of_place P place) (type_of_shape P a shape) ≡ true
       → with_value (s.spot_of P G place) (λ spot. with_value (s.assigned P G a shape) (λ x. quiet (steps.Running (put G spot x) (onward frame) callers)))
-      ≡ does (effect_of G (assignment_of P place a (place_read shape)))
-  assign_same place a (open'.Number z) = number_same place a
-  assign_same place a (open'.Read from) = cells_same place from a
-  assign_same place a (open'.Minus x) = number_same place a
-  assign_same place a (open'.Op o x y) = number_same place a
-  assign_same place a (open'.Pick test x y) = number_same place a
+      ≡ does (effect_of xs (assignment_of P place a (place_read shape)))
+  assign_same place a (open'.Number z) h = number_same place a h
+  assign_same place a (open'.Read from) h = cells_same place from a h
+  assign_same place a (open'.Minus x) h = number_same place a h
+  assign_same place a (open'.Op o x y) h = number_same place a h
+  assign_same place a (open'.Pick test x y) h = number_same place a h
 
   -- ---- jumps
 
@@ -128,7 +213,7 @@ module _ (P : CProgram) (M : Model) (G : List Cells) (frame : Frame) (callers : 
 
   -- ---- calls
 
-  event_same : (o : Option EventId) → showing (cells.◌>>=◌ o (λ id. shows id G)) G frame callers ≡ does (or_else o Value >>= λ id. Ok (m.Show id))
+  event_same : (o : Option EventId) → showing (cells.◌>>=◌ o (λ id. shows id)) G frame callers ≡ does (or_else o Value >>= λ id. Ok (m.Show id))
   event_same None = refl
   event_same (Some id) = refl
 
@@ -136,11 +221,11 @@ module _ (P : CProgram) (M : Model) (G : List Cells) (frame : Frame) (callers : 
   function_same None = refl
   function_same (Some k) = refl
 
-  call_if : (b : Bool) (x y : Ran shown.Event) (p q : Statement) → x ≡ does (effect_of G p) → y ≡ does (effect_of G q) → cond b x y ≡ does (effect_of G (cond b p q))
+  call_if : (b : Bool) (x y : Ran shown.Event) (p q : Statement) → x ≡ does (effect_of xs p) → y ≡ does (effect_of xs q) → cond b x y ≡ does (effect_of xs (cond b p q))
   call_if true x y p q h k = h
   call_if false x y p q h k = k
 
-  call_same : (name : List ℕ) → s.call (event_of M (global_names P)) P G frame callers name ≡ does (effect_of G (call_of P M name))
+  call_same : (name : List ℕ) → s.call (event_of M (global_names P)) P G frame callers name ≡ does (effect_of xs (call_of P M name))
   unfolding event_of
   call_same name =
       call_if (is_in name (event_names P)) _ _ (m'.Event (event_named M name (events_of M))) (m'.Call (place_in name (function_names P)))
@@ -148,74 +233,36 @@ module _ (P : CProgram) (M : Model) (G : List Cells) (frame : Frame) (callers : 
 
   -- ---- statements
 
-  act_same : (body : List CStmt) (statement : CStmt) → act (event_of M (global_names P)) P body G frame callers statement ≡ does (effect_of G (statement_of P M body statement))
-  act_same body (c.Assign place a) = assign_same place a (out-CExpr a)
-  act_same body (c.IfGoto test label) = branch_same body label.bytes (s.holds P G test) ∙ ap (λ r. does (r >>= branched (label_in label.bytes body))) (sym (same_test P G test))
-  act_same body (c.Goto label) = gone_same (label_in label.bytes body)
-  act_same body (c.Label label) = refl
-  act_same body (c.Switch a cases otherwise) =
+  act_same : (body : List CStmt) (statement : CStmt) → is_typed P statement ≡ true
+      → act (event_of M (global_names P)) P body G frame callers statement ≡ does (effect_of xs (statement_of P M body statement))
+  act_same body (c.Assign place a) h = assign_same place a (out-CExpr a) h
+  act_same body (c.IfGoto test label) h =
+      branch_same body label.bytes (s.holds P G test)
+      ∙ ap (λ r. does (r >>= branched (label_in label.bytes body)))
+      (same_test P xs fits test (left_of (is_number P test.left) (is_number P test.right) h) (right_of (is_number P test.left) (is_number P test.right) h))
+  act_same body (c.Goto label) h = gone_same (label_in label.bytes body)
+  act_same body (c.Label label) h = refl
+  act_same body (c.Switch a cases otherwise) h =
       switch_same body cases otherwise.bytes (s.value_of P G a)
-      ∙ ap (λ v. does (v >>= switched (map (case_of body) cases) (label_in otherwise.bytes body))) (sym (same_value P G a))
-  act_same body (c.Call name) = call_same name.bytes
-  act_same body c.Return = refl
+      ∙ ap (λ v. does (v >>= switched (map (case_of body) cases) (label_in otherwise.bytes body))) (same_value P xs fits a h)
+  act_same body (c.Call name) h = call_same name.bytes
+  act_same body c.Return h = refl
 
-  there_same : (body : List CStmt) (o : Option CStmt)
-      → fetched (event_of M (global_names P)) P body G frame callers o ≡ does (effect_there G (option_map (statement_of P M body) o))
-  there_same body None = refl
-  there_same body (Some statement) = act_same body statement
+  there_same : (body : List CStmt) (o : Option CStmt) → ((statement : CStmt) → o ≡ Some statement → is_typed P statement ≡ true)
+      → fetched (event_of M (global_names P)) P body G frame callers o ≡ does (effect_there xs (option_map (statement_of P M body) o))
+  there_same body None h = refl
+  there_same body (Some statement) h = act_same body statement (h statement refl)
 
-  function_there : (o : Option CFunction)
+  function_there : (o : Option CFunction) → ((f : CFunction) → o ≡ Some f → list_all (is_typed P) f.body ≡ true)
       → with_value (or_else o Value) (λ f. fetched (event_of M (global_names P)) P f.body G frame callers (slice_get f.body frame.place))
-      ≡ does (or_else (option_map (body_of P M) o) Value >>= λ f. effect_there G (slice_get f.statements frame.place))
-  function_there None = refl
-  function_there (Some f) =
-      there_same f.body (slice_get f.body frame.place) ∙ ap (λ o. does (effect_there G o)) (sym (get_map (statement_of P M f.body) f.body frame.place))
+      ≡ does (or_else (option_map (body_of P M) o) Value >>= λ f. effect_there xs (slice_get f.statements frame.place))
+  function_there None h = refl
+  function_there (Some f) h =
+      there_same f.body (slice_get f.body frame.place) (λ statement e. all_at (is_typed P) f.body frame.place statement (h f refl) e)
+      ∙ ap (λ o. does (effect_there xs o)) (sym (slice_get-map (statement_of P M f.body) f.body frame.place))
 
-  pub running_same : step_of P M (steps.Running G frame callers) ≡ does (effect_at (linked_of P M) G frame)
+  pub running_same : list_all (λ f. list_all (is_typed P) f.body) P.functions ≡ true → step_of P M (steps.Running G frame callers) ≡ does (effect_at (linked_of P M) xs frame)
   unfolding linked_of
-  running_same =
-      function_there (slice_get P.functions frame.function)
-      ∙ ap (λ o. does (or_else o Value >>= λ f. effect_there G (slice_get f.statements frame.place))) (sym (get_map (body_of P M) P.functions frame.function))
-
--- ---- positions
-
-kept_of : (old new : List Cells) (to : Position) (frame : Frame) (callers : List Frame) → config_of new to ≡ steps.Running old frame callers → new ≡ old
-kept_of old new (Running call waiting) frame callers e = cc
-kept_of old new Idle frame callers e = cc
-kept_of old new (Stuck rule) frame callers e = cc
-
-back_is : (globals : List Cells) (callers : List Frame) → returned {E = shown.Event} globals callers ≡ quiet (effects.left_to globals callers)
-back_is globals [] = refl
-back_is globals (frame ∷ callers) = refl
-
--- the cells of a run that goes on are those that stand there, and those of a run that does not are kept
-cells_are : (old new : List Cells) (to : Position) → KeptIfStuck to old new → new ≡ cells_after old (config_of new to)
-cells_are old new (Running call callers) kept = refl
-cells_are old new Idle kept = refl
-cells_are old new (Stuck rule) kept = kept
-
-done_is : (P : CProgram) (M : Model) (old new : List Cells) (from to : Position) (frame : Frame) (callers : List Frame) (answer : Option EventId) (r : Result Effect Trouble)
-    → config_of old from ≡ steps.Running old frame callers → step_of P M (config_of old from) ≡ does P M old frame callers r
-    → config_of new to ≡ after r (steps.Running old frame callers) → answer ≡ event_after r → new ≡ cells_after old (config_of new to) → IsStep P M old from new to answer
-done_is P M old new from to frame callers answer (Err t) f e moved a k = subst (IsStep P M old from new to) (sym a) (record { step_is = e ∙ ap quiet (sym moved); cells_are = k })
-done_is P M old new from to frame callers answer (Ok m.Onward) f e moved a k = subst (IsStep P M old from new to) (sym a) (record { step_is = e ∙ ap quiet (sym moved); cells_are = k })
-done_is P M old new from to frame callers answer (Ok (m.At place)) f e moved a k = subst (IsStep P M old from new to) (sym a) (record { step_is = e ∙ ap quiet (sym moved); cells_are = k })
-done_is P M old new from to frame callers answer (Ok (m.Put spot x)) f e moved a k = subst (IsStep P M old from new to) (sym a) (record { step_is = e ∙ ap quiet (sym moved); cells_are = k })
-done_is P M old new from to frame callers answer (Ok (m.Enter function)) f e moved a k = subst (IsStep P M old from new to) (sym a) (record { step_is = e ∙ ap quiet (sym moved); cells_are = k })
-done_is P M old new from to frame callers answer (Ok (m.Show event)) f e moved a k =
-    subst (IsStep P M old from new to) (sym a)
-    (record { frame = frame; callers = callers; from_is = f; kept = kept_of old new to (onward frame) callers moved; to_is = moved; step_is = e })
-done_is P M old new from to frame callers answer (Ok m.Back) f e moved a k =
-    subst (IsStep P M old from new to) (sym a) (record { step_is = e ∙ back_is old callers ∙ ap quiet (sym moved); cells_are = k })
-
--- one step of the linked program is one step of the program
-pub is_step : (P : CProgram) (M : Model) (old new : List Cells) (from to : Position) (answer : Option EventId)
-    → config_of new to ≡ next_config (linked_of P M) (config_of old from) → answer ≡ next_event (linked_of P M) (config_of old from) → KeptIfStuck to old new
-    → IsStep P M old from new to answer
-is_step P M old new (Running call callers) to answer moved a kept =
-    done_is P M old new (Running call callers) to (frame_of call) _ answer (effect_at (linked_of P M) old (frame_of call)) refl
-    (running_same P M old (frame_of call) _) moved a (cells_are old new to kept)
-is_step P M old new Idle to answer moved a kept =
-    subst (IsStep P M old Idle new to) (sym a) (record { step_is = ap quiet (sym moved); cells_are = cells_are old new to kept })
-is_step P M old new (Stuck rule) to answer moved a kept =
-    subst (IsStep P M old (Stuck rule) new to) (sym a) (record { step_is = ap quiet (sym moved); cells_are = cells_are old new to kept })
+  running_same typed =
+      function_there (slice_get P.functions frame.function) (λ f e. all_at (λ g. list_all (is_typed P) g.body) P.functions frame.function f typed e)
+      ∙ ap (λ o. does (or_else o Value >>= λ f. effect_there xs (slice_get f.statements frame.place))) (sym (slice_get-map (body_of P M) P.functions frame.function))

@@ -1,6 +1,6 @@
 pub mod Numbers
 pub mod Halts
-pub mod Values
+pub mod Falling
 pub mod Meaning
 pub mod Resolved
 pub mod Positions

@@ -1,22 +1,21 @@
--- What the parts of a program mean whose names are numbers, as for programs of the C subset (C99 6.5): operands are computed
--- from left to right, and each index is tested where it is computed. What has no number because its name has no meaning is
--- of no value at the place where the name would be looked up.
-use Rattle.std.specs.Prelude.{ℕ, ℤ, List, [], ◌∷◌, Bool, true, false, if◌then◌else◌, Option, Some, None, Result, Ok, slice_get}
+-- What the parts of a program mean whose names are numbers and whose places lie in one vector of cells, as for programs of the C
+-- subset (C99 6.5): operands are computed from left to right, and each index is tested where it is computed. What has no number
+-- because its name has no meaning is of no value at the place where the name would be looked up.
+use Rattle.std.specs.Prelude.{ℕ, ◌+◌, ◌-◌, ◌*◌, ◌^◌, min, ℤ, pos, List, [], ◌∷◌, Bool, true, false, if◌then◌else◌, Option, Some, None, Result, Ok, slice_get, slice_set, slice_index_or}
 use Rattle.og_model.specs.declared.EventId.{EventId}
 use Rattle.og_csubset.specs.Step.{operation, relation}
-use Rattle.og_ir.specs.Cells.{Cells, Cell, number_in}
 use Rattle.og_ir.specs.Reading.{below}
 use Rattle.og_ir.specs.Arithmetic.{Trouble, Index, Value, ◌>>=◌, or_else, in_64_bits, negative_of, is_same}
-use Rattle.og_ir.specs.FlatSteps.{Spot, cells_at, put}
-use Rattle.og_ir.specs.Steps.{Frame, Running, Ran, quiet, onward, jumped, returned, called, showing}
+use Rattle.og_ir.specs.Steps.{Frame}
+use Rattle.og_ccells.specs.Vectors.{copied}
 use Rattle.og_cstatement.specs.declared.code.Expression.{Expression, Expression-F, fold-Expression}
-use Rattle.og_cstatement.specs.declared.code.Expression.TheOpen.{Literal, Read, Minus, Op, Choice, Member, Element}
-use Rattle.og_cstatement.specs.declared.code.Selector.{Selector, Selector-F, fold-Selector}
+use Rattle.og_cstatement.specs.declared.code.Expression.TheOpen.{Literal, Read, Minus, Op, Choice}
+use Rattle.og_cstatement.specs.declared.code.Term.{Term, Term-F, fold-Term}
 use Rattle.og_cstatement.specs.declared.code.Place.{Place, Place-F, fold-Place}
 use Rattle.og_cstatement.specs.declared.code.Test.{Test, Test-F, fold-Test}
 use Rattle.og_cstatement.specs.declared.code.Case.{Case}
 use Rattle.og_cstatement.specs.declared.code.Statement.{Statement}
-use Rattle.og_cstatement.specs.declared.code.Statement.TheVariants.{Assign, Copy, Branch, Goto, Label, Switch, Event, Call, Return}
+use Rattle.og_cstatement.specs.declared.code.Statement.TheVariants as statement
 use Rattle.og_cstatement.specs.declared.linking.Linked.{Linked}
 
 -- ---- numbers
@@ -24,82 +23,70 @@ use Rattle.og_cstatement.specs.declared.linking.Linked.{Linked}
 abbrev pub Number : Type 0
 Number = Result ℤ Trouble
 
--- the places that are selected, from the outside inward
-abbrev pub all_selected : List (Result ℕ Trouble) → Result (List ℕ) Trouble
-all_selected [] = Ok []
-all_selected (one ∷ more) = do
-  k ← one
-  path ← all_selected more
-  Ok (k ∷ path)
+-- the number at a place of the vector
+abbrev pub number_at : List ℤ → ℕ → ℤ
+number_at cells at = slice_index_or cells at (pos 0)
 
--- the number of a place
-abbrev pub read_at : List Cells → Spot → Number
-read_at globals spot = cells_at globals spot >>= λ cells. or_else (number_in cells) Value
+-- a place, moved by each index in turn; no place is further than the largest number of 64 bits
+abbrev pub reached : ℕ → List (Result ℕ Trouble) → Result ℕ Trouble
+reached at [] = Ok at
+reached at (one ∷ more) = one >>= λ n. reached (min (at + n) (2 ^ 64 - 1)) more
 
 abbrev pub chosen : Number → Number → Bool → Number
 chosen a b true = a
 chosen a b false = b
 
-abbrev pub number_layer : List Cells → Expression-F Number (Result ℕ Trouble) (Result Spot Trouble) (Result Bool Trouble) → Number
-number_layer globals (Literal z) = Ok z
-number_layer globals (Read place) = place >>= read_at globals
-number_layer globals (Minus x) = x >>= negative_of in_64_bits
-number_layer globals (Op o a b) = do
+abbrev pub number_layer : List ℤ → Expression-F Number (Result ℕ Trouble) (Result ℕ Trouble) (Result Bool Trouble) → Number
+number_layer cells (Literal z) = Ok z
+number_layer cells (Read place) = place >>= λ at. Ok (number_at cells at)
+number_layer cells (Minus x) = x >>= negative_of in_64_bits
+number_layer cells (Op o a b) = do
   x ← a
   y ← b
   operation o x y
-number_layer globals (Choice test a b) = test >>= chosen a b
+number_layer cells (Choice test a b) = test >>= chosen a b
 
--- an index inside an array of such a size
-abbrev pub index_in : Option ℕ → ℤ → Result ℕ Trouble
-index_in size z = do
-  n ← or_else size Value
-  or_else (below n z) Index
+-- how far an index inside an array of such a size leads
+abbrev pub index_in : ℕ → ℕ → ℤ → Result ℕ Trouble
+index_in bound stride z = or_else (below bound z) Index >>= λ k. Ok (k * stride)
 
-abbrev pub selector_layer : Selector-F Number (Result ℕ Trouble) (Result Spot Trouble) (Result Bool Trouble) → Result ℕ Trouble
-selector_layer (Member k) = or_else k Value
-selector_layer (Element size x) = x >>= index_in size
+abbrev pub term_layer : Term-F Number (Result ℕ Trouble) (Result ℕ Trouble) (Result Bool Trouble) → Result ℕ Trouble
+term_layer term = term.index >>= index_in term.bound term.stride
 
-abbrev pub place_layer : Place-F Number (Result ℕ Trouble) (Result Spot Trouble) (Result Bool Trouble) → Result Spot Trouble
-place_layer place = do
-  base ← or_else place.global Value
-  path ← all_selected place.path
-  Ok (record { base = base; path = path })
+abbrev pub place_layer : Place-F Number (Result ℕ Trouble) (Result ℕ Trouble) (Result Bool Trouble) → Result ℕ Trouble
+place_layer place = reached place.offset place.terms
 
-abbrev pub test_layer : Test-F Number (Result ℕ Trouble) (Result Spot Trouble) (Result Bool Trouble) → Result Bool Trouble
+abbrev pub test_layer : Test-F Number (Result ℕ Trouble) (Result ℕ Trouble) (Result Bool Trouble) → Result Bool Trouble
 test_layer test = do
   x ← test.left
   y ← test.right
   Ok (relation test.op x y)
 
 -- the value of an expression
-unfoldable pub value_of : List Cells → Expression → Number
-value_of globals e = fold-Expression Number (Result ℕ Trouble) (Result Spot Trouble) (Result Bool Trouble) (number_layer globals) selector_layer place_layer test_layer e
+unfoldable pub value_of : List ℤ → Expression → Number
+value_of cells e = fold-Expression Number (Result ℕ Trouble) (Result ℕ Trouble) (Result Bool Trouble) (number_layer cells) place_layer term_layer test_layer e
 
--- the place that a selector selects
-unfoldable pub selected : List Cells → Selector → Result ℕ Trouble
-selected globals selector = fold-Selector Number (Result ℕ Trouble) (Result Spot Trouble) (Result Bool Trouble) (number_layer globals) selector_layer place_layer test_layer selector
+-- how far an index moves a place
+unfoldable pub distance_of : List ℤ → Term → Result ℕ Trouble
+distance_of cells term = fold-Term Number (Result ℕ Trouble) (Result ℕ Trouble) (Result Bool Trouble) (number_layer cells) place_layer term_layer test_layer term
 
--- the global of a place, and the path in it
-unfoldable pub spot_of : List Cells → Place → Result Spot Trouble
-spot_of globals place = fold-Place Number (Result ℕ Trouble) (Result Spot Trouble) (Result Bool Trouble) (number_layer globals) selector_layer place_layer test_layer place
-
--- the number at a place
-abbrev pub read_of : List Cells → Place → Number
-read_of globals place = spot_of globals place >>= read_at globals
+-- where a place lies in the vector
+unfoldable pub place_of : List ℤ → Place → Result ℕ Trouble
+place_of cells place = fold-Place Number (Result ℕ Trouble) (Result ℕ Trouble) (Result Bool Trouble) (number_layer cells) place_layer term_layer test_layer place
 
 -- whether a test holds
-unfoldable pub holds : List Cells → Test → Result Bool Trouble
-holds globals test = fold-Test Number (Result ℕ Trouble) (Result Spot Trouble) (Result Bool Trouble) (number_layer globals) selector_layer place_layer test_layer test
+unfoldable pub holds : List ℤ → Test → Result Bool Trouble
+holds cells test = fold-Test Number (Result ℕ Trouble) (Result ℕ Trouble) (Result Bool Trouble) (number_layer cells) place_layer term_layer test_layer test
 
 -- ---- statements
 
--- What a statement does: goes on behind it, goes on at a place of the body, puts cells, calls a function, shows an event, or
--- returns.
+-- What a statement does: goes on behind it, goes on at a place of the body, puts a number, copies so many cells, calls a
+-- function, shows an event, or returns.
 pub data Effect : Type 0 where
   Onward : Effect
   At : (place : ℕ) → Effect
-  Put : (spot : Spot) (cells : Cells) → Effect
+  Put : (place : ℕ) (number : ℤ) → Effect
+  Copy : (to from width : ℕ) → Effect
   Enter : (function : ℕ) → Effect
   Show : (event : EventId) → Effect
   Back : Effect
@@ -118,48 +105,49 @@ branched place true = gone place
 branched place false = Ok Onward
 
 -- a number is put, where the place is found before the number
-abbrev pub assigned : List Cells → Place → Expression → Result Effect Trouble
-assigned globals place e = do
-  spot ← spot_of globals place
-  z ← value_of globals e
-  Ok (Put spot (Cell z))
+abbrev pub assigned : List ℤ → Place → Expression → Result Effect Trouble
+assigned cells place e = do
+  at ← place_of cells place
+  z ← value_of cells e
+  Ok (Put at z)
 
 -- the same of the cells of another place
-abbrev pub copied : List Cells → Place → Place → Result Effect Trouble
-copied globals place from = do
-  spot ← spot_of globals place
-  source ← spot_of globals from
-  cells ← cells_at globals source
-  Ok (Put spot cells)
+abbrev pub copied_from : List ℤ → Place → Place → ℕ → Result Effect Trouble
+copied_from cells place from width = do
+  to ← place_of cells place
+  source ← place_of cells from
+  Ok (Copy to source width)
 
 abbrev pub switched : List Case → Option ℕ → ℤ → Result Effect Trouble
 switched cases otherwise z = gone (place_of_case z cases otherwise)
 
-abbrev pub effect_of : List Cells → Statement → Result Effect Trouble
-effect_of globals (Assign place e) = assigned globals place e
-effect_of globals (Copy place from) = copied globals place from
-effect_of globals (Branch test place) = holds globals test >>= branched place
-effect_of globals (Goto place) = gone place
-effect_of globals Label = Ok Onward
-effect_of globals (Switch e cases otherwise) = value_of globals e >>= switched cases otherwise
-effect_of globals (Event event) = or_else event Value >>= λ id. Ok (Show id)
-effect_of globals (Call function) = or_else function Value >>= λ k. Ok (Enter k)
-effect_of globals Return = Ok Back
+abbrev pub effect_of : List ℤ → Statement → Result Effect Trouble
+effect_of cells (statement.Assign place e) = assigned cells place e
+effect_of cells (statement.Copy place from width) = copied_from cells place from width
+effect_of cells (statement.Branch test place) = holds cells test >>= branched place
+effect_of cells (statement.Goto place) = gone place
+effect_of cells statement.Label = Ok Onward
+effect_of cells (statement.Switch e cases otherwise) = value_of cells e >>= switched cases otherwise
+effect_of cells (statement.Event event) = or_else event Value >>= λ id. Ok (Show id)
+effect_of cells (statement.Call function) = or_else function Value >>= λ k. Ok (Enter k)
+effect_of cells statement.Return = Ok Back
 
 -- the statement of a place, or the end of the function
-abbrev pub effect_there : List Cells → Option Statement → Result Effect Trouble
-effect_there globals None = Ok Back
-effect_there globals (Some statement) = effect_of globals statement
+abbrev pub effect_there : List ℤ → Option Statement → Result Effect Trouble
+effect_there cells None = Ok Back
+effect_there cells (Some statement) = effect_of cells statement
 
-abbrev pub effect_at : Linked → List Cells → Frame → Result Effect Trouble
-effect_at linked globals frame =
-    or_else (slice_get linked.functions frame.function) Value >>= λ f. effect_there globals (slice_get f.statements frame.place)
+-- the statement where a function stands
+abbrev pub effect_at : Linked → List ℤ → Frame → Result Effect Trouble
+effect_at linked cells frame =
+    or_else (slice_get linked.functions frame.function) Value >>= λ f. effect_there cells (slice_get f.statements frame.place)
 
--- where a run goes on, and what it shows
-abbrev pub carried : {E : Type 0} → (EventId → List Cells → Option E) → List Cells → Frame → List Frame → Effect → Ran E
-carried shows globals frame callers Onward = quiet (Running globals (onward frame) callers)
-carried shows globals frame callers (At place) = quiet (Running globals (jumped frame place) callers)
-carried shows globals frame callers (Put spot cells) = quiet (Running (put globals spot cells) (onward frame) callers)
-carried shows globals frame callers (Enter function) = called globals frame callers function
-carried shows globals frame callers (Show event) = showing (shows event globals) globals frame callers
-carried shows globals frame callers Back = returned globals callers
+-- the cells after an effect
+abbrev pub cells_by : Effect → List ℤ → List ℤ
+cells_by Onward cells = cells
+cells_by (At place) cells = cells
+cells_by (Put place z) cells = slice_set cells place z
+cells_by (Copy to from width) cells = copied to from width cells
+cells_by (Enter function) cells = cells
+cells_by (Show event) cells = cells
+cells_by Back cells = cells

@@ -5,14 +5,18 @@ use Rattle.og_ir.specs.Steps as steps
 use Rattle.og_ir.specs.Steps.{Frame, Config, Over, Broken}
 use Rattle.og_cstatement.specs.declared.position.Call.{Call}
 use Rattle.og_cstatement.specs.declared.position.Position.{Position}
-use Rattle.og_cstatement.specs.declared.position.Position.TheVariants.{Running, Idle, Stuck}
+use Rattle.og_cstatement.specs.declared.position.Standing.{Standing}
+use Rattle.og_cstatement.specs.declared.position.Standing.TheVariants.{Running, Idle, Stuck}
 use Rattle.og_cstatement.specs.Numbers.{trouble_of}
 
 abbrev pub frame_of : Call → Frame
 frame_of c = record { function = c.function; place = c.place }
 
 -- the innermost caller stands last in a position
+abbrev pub config_by : List Cells → Standing → List Call → Config
+config_by globals (Running call) callers = steps.Running globals (frame_of call) (reverse (map frame_of callers))
+config_by globals Idle callers = Over globals
+config_by globals (Stuck rule) callers = Broken (trouble_of rule)
+
 abbrev pub config_of : List Cells → Position → Config
-config_of globals (Running call callers) = steps.Running globals (frame_of call) (reverse (map frame_of callers.items))
-config_of globals Idle = Over globals
-config_of globals (Stuck rule) = Broken (trouble_of rule)
+config_of globals position = config_by globals position.standing position.callers.items

@@ -1,4 +1,5 @@
-//! Functions of a program with names replaced by numbers. A name without a meaning is `None` where its number would stand.
+//! Functions of a program with names replaced by numbers, and places by where they lie in the vector of cells. A name without a
+//! meaning is `None` where its number would stand, and counts nothing in a place; a program that breaks no load rule has none.
 
 use og_csubset::{COp, CRel};
 use og_model::EventId;
@@ -16,20 +17,21 @@ pub enum Expression {
     Choice(Test, Boxed<Expression>, Boxed<Expression>),
 }
 
-/// One selector of a place: a member by its number from 0, or an element of an array of so many by its index.
+/// An index of a place: into an array of `bound` elements, each of `stride` cells.
 #[cycle(code)]
 #[derive(Drop)]
-pub enum Selector {
-    Member(Option<usize>),
-    Element(Option<u32>, Expression),
+pub struct Term {
+    pub bound: u32,
+    pub stride: u32,
+    pub index: Expression,
 }
 
-/// A global by its number from 0, and the path in it.
+/// A place in the vector of cells: that of its global and members, and then further by its indices.
 #[cycle(code)]
 #[derive(Drop)]
 pub struct Place {
-    pub global: Option<usize>,
-    pub path: Items<Selector>,
+    pub offset: u32,
+    pub terms: Items<Term>,
 }
 
 /// A relation of two numbers (C99 6.5.8 and 6.5.9).
@@ -53,8 +55,8 @@ pub struct Case {
 pub enum Statement {
     /// Puts a number.
     Assign(Place, Expression),
-    /// Puts the cells of the second place, which may be a struct, at the first.
-    Copy(Place, Place),
+    /// Puts so many cells from the second place on at the first.
+    Copy(Place, Place, u32),
     /// Goes on at a place of the body where the test holds.
     Branch(Test, Option<usize>),
     Goto(Option<usize>),

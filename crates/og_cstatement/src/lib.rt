@@ -5,12 +5,12 @@ mod arithmetic;
 mod code;
 mod effect;
 mod linking;
-mod memory;
+mod places;
 mod position;
 mod resolving;
 mod stepping;
 mod value;
 
 pub use linking::{Linked, link};
-pub use position::{Call, Position};
+pub use position::{Call, Position, Standing};
 pub use stepping::step;

@@ -15,7 +15,7 @@ use Rattle.og_csubset.specs.Kinds.{global_names}
 use Rattle.og_csubset.specs.Interface.{duration_of, outputs_of}
 use Rattle.og_csubset.specs.Reads.{Globals, event_shown, values_of, duration_in, end_of}
 use Rattle.og_cstatement.specs.declared.position.Position.{Position}
-use Rattle.og_cstatement.specs.Positions.{config_of}
+use Rattle.og_cstatement.specs.Positions.{config_by, config_of}
 use Rattle.og_cstatement.specs.Links.{Calls, cells_after}
 use Rattle.og_cstep.specs.declared.Advance.{Advance}
 use Rattle.og_cstep.specs.declared.Advance.TheVariants as advance
@@ -65,7 +65,7 @@ by_event program model old new from to now last id answer (Some e) calls is answ
     (calls.step_is ∙ ap (λ x. showing x old calls.frame calls.callers) (sym is)))
 by_event program model old new from to now last id answer None calls is answers =
     let cells : new ≡ old = calls.kept in
-    let config : config_of new now ≡ Broken Unread = ap (config_of new) answers.0 in
+    let config : config_of new now ≡ Broken Unread = ap (λ st. config_by new st now.callers.items) answers.0 in
     let now_is : ◌≡◌ {A = Run} (record { program = program; model = model; cells = new; config = config_of new now; last = Some answer })
     (record { program = program; model = model; cells = old; config = Broken Unread; last = Some (advance.Stuck stuck.Value) }) =
     (λ j. record { program = program; model = model; cells = cells j; config = config j; last = Some (answers.1 j) }) in

@@ -28,8 +28,9 @@ use Rattle.og_cstep.specs.declared.interface.Interface.{Interface}
 use Rattle.og_cstep.specs.Answered.{answer_at_end}
 use Rattle.og_cstep.specs.Interfaces.{slot_named, slots_named, region_slot, signal_slots, duration_place, no_duration_name, interface_among, kept_shape}
 use Rattle.og_csubset.specs.Kinds.{place_in}
-use Rattle.og_cstep.specs.Machines.{is_not_zero}
-use Rattle.og_cstep.specs.Slots.{number_of, holds_shape, holds_slot, are_held, holds_truth, is_leaf, rests_in, answer_if, fault_of, fault_answer, rest_answer, stopped_answer, by_stopped, by_kind, end_answer, outputs_at, inputs_at, duration_slot, duration_at, shows, timer_number, variables_held, timers_held, regions_held}
+use Rattle.og_cstep.proofs.Fitted.{range_get}
+use Rattle.og_cstep.specs.Machines.{is_not_zero, leaf_of}
+use Rattle.og_cstep.specs.Slots.{Sight, in_trees, shape_value, cells_at, are_held, holds_truth, is_leaf, rests_in, answer_if, fault_of, fault_answer, rest_answer, stopped_answer, by_stopped, by_kind, end_answer, outputs_at, inputs_at, duration_slot, duration_at, shows, timer_number, leaf_in, leaf_at, variables_held, timers_held, regions_held}
 
 -- ---- options
 
@@ -48,25 +49,28 @@ all_is f p g one (x ∷ xs) = there (λ y ys. y ∷ ys) (f x) (all_of f xs) ∙ 
 
 -- ---- values
 
-number_there : (a : Option ℤ) → is_some (a >>= λ z. Some (Int z)) ≡ is_some a
-number_there None = refl
-number_there (Some z) = refl
+shape_same : (model : Model) (s : interface.Shape) (c : Cells) → value_of_shape model s c ≡ shape_value model.types (kept_shape s) c
+shape_same model interface.Number c = refl
+shape_same model (interface.Typed t) c = refl
 
-shape_there : (model : Model) (s : interface.Shape) (c : Cells) → is_some (value_of_shape model s c) ≡ holds_shape model.types (kept_shape s) c
-shape_there model interface.Number c = number_there (number_in c)
-shape_there model (interface.Typed t) c = refl
+cells_same : (model : Model) (s : interface.Shape) (a : Option Cells) → (a >>= value_of_shape model s) ≡ (a >>= shape_value model.types (kept_shape s))
+cells_same model s None = refl
+cells_same model s (Some c) = shape_same model s c
 
-cells_there : (model : Model) (s : interface.Shape) (a : Option Cells) → is_some (a >>= value_of_shape model s) ≡ passes (holds_shape model.types (kept_shape s)) a
-cells_there model s None = refl
-cells_there model s (Some c) = shape_there model s c
+-- the value of a field, by its name and by its slot
+pub field_same : (model : Model) (globals : Globals) (field : Field) → value_of_field model globals field ≡ (in_trees model.types globals.cells).value (slot_named globals.names field)
+field_same model globals field = cells_same model field.shape (cells_named globals field.name)
 
-pub values_there : (model : Model) (globals : Globals) (fields : List Field) → is_some (values_of model globals fields) ≡ are_held model.types globals.cells (slots_named globals.names fields)
+abbrev seen : Model → Globals → Sight
+seen model globals = in_trees model.types globals.cells
+
+pub values_there : (model : Model) (globals : Globals) (fields : List Field) → is_some (values_of model globals fields) ≡ are_held (seen model globals) (slots_named globals.names fields)
 values_there model globals fields =
-    all_is (value_of_field model globals) (holds_slot model.types globals.cells) (slot_named globals.names) (λ field. cells_there model field.shape (cells_named globals field.name)) fields
+    all_is (value_of_field model globals) (λ slot. is_some ((seen model globals).value slot)) (slot_named globals.names) (λ field. ap is_some (field_same model globals field)) fields
 
-pub timers_there : (model : Model) (globals : Globals) → is_some (timers_in model globals) ≡ list_all (holds_truth globals.cells) (slots_named globals.names (interface.timer_fields model))
+pub timers_there : (model : Model) (globals : Globals) → is_some (timers_in model globals) ≡ list_all (holds_truth (seen model globals).number) (slots_named globals.names (interface.timer_fields model))
 timers_there model globals =
-    all_is (λ field. number_named globals field.name >>= truth_in) (holds_truth globals.cells) (slot_named globals.names) (λ field. passed (number_named globals field.name) truth_in) (interface.timer_fields model)
+    all_is (λ field. number_named globals field.name >>= truth_in) (holds_truth (seen model globals).number) (slot_named globals.names) (λ field. passed (number_named globals field.name) truth_in) (interface.timer_fields model)
 
 -- ---- regions
 
@@ -98,11 +102,11 @@ region_there : (region : Region) (a : Option ℤ) (more : Option (List (List Nam
 region_there region None more = refl
 region_there region (Some z) more = there (λ here others. here ++ others) (active_path region z) more ∙ ap (λ b. b && is_some more) (path_there region z)
 
-pub paths_there : (model : Model) (globals : Globals) (rs : List Region) → is_some (paths_in model globals rs) ≡ list_all (rests_in globals.cells) (map (region_slot globals.names model) rs)
+pub paths_there : (model : Model) (globals : Globals) (rs : List Region) → is_some (paths_in model globals rs) ≡ list_all (rests_in (seen model globals).number) (map (region_slot globals.names model) rs)
 paths_there model globals [] = refl
 paths_there model globals (r ∷ rs) =
     region_there r (number_named globals (interface.region_field model r).name) (paths_in model globals rs)
-    ∙ ap (λ b. rests_in globals.cells (region_slot globals.names model r) && b) (paths_there model globals rs)
+    ∙ ap (λ b. rests_in (seen model globals).number (region_slot globals.names model r) && b) (paths_there model globals rs)
 
 -- ---- ends
 
@@ -131,55 +135,50 @@ told_fault (Some k) (Some p) (Some v) (Some t) = refl
 abbrev among : Globals → Model → Interface
 among globals model = interface_among globals.names model
 
-variables_same : (model : Model) (globals : Globals) → variables_held model.types (among globals model) globals.cells ≡ is_some (variables_in model globals)
+variables_same : (model : Model) (globals : Globals) → variables_held (seen model globals) (among globals model) ≡ is_some (variables_in model globals)
 variables_same model globals = sym (values_there model globals (interface.variable_fields model))
 
-timers_same : (model : Model) (globals : Globals) → timers_held (among globals model) globals.cells ≡ is_some (timers_in model globals)
+timers_same : (model : Model) (globals : Globals) → timers_held (seen model globals).number (among globals model) ≡ is_some (timers_in model globals)
 timers_same model globals = sym (timers_there model globals)
 
-regions_same : (model : Model) (globals : Globals) → regions_held (among globals model) globals.cells ≡ is_some (paths_in model globals (regions model))
+regions_same : (model : Model) (globals : Globals) → regions_held (seen model globals).number (among globals model) ≡ is_some (paths_in model globals (regions model))
 regions_same model globals = sym (paths_there model globals (regions model))
 
-rest_same : (model : Model) (globals : Globals) → rest_answer model.types (among globals model) globals.cells ≡ told (rest_end model globals)
+rest_same : (model : Model) (globals : Globals) → rest_answer (seen model globals) (among globals model) ≡ told (rest_end model globals)
 rest_same model globals =
-    ap (λ b. answer_if (b && (variables_held model.types (among globals model) globals.cells && timers_held (among globals model) globals.cells)) advance.Rest) (regions_same model globals)
-    ∙ ap (λ b. answer_if (is_some (paths_in model globals (regions model)) && (b && timers_held (among globals model) globals.cells)) advance.Rest) (variables_same model globals)
+    ap (λ b. answer_if (b && (variables_held (seen model globals) (among globals model) && timers_held (seen model globals).number (among globals model))) advance.Rest) (regions_same model globals)
+    ∙ ap (λ b. answer_if (is_some (paths_in model globals (regions model)) && (b && timers_held (seen model globals).number (among globals model))) advance.Rest) (variables_same model globals)
     ∙ ap (λ b. answer_if (is_some (paths_in model globals (regions model)) && (is_some (variables_in model globals) && b)) advance.Rest) (timers_same model globals)
     ∙ told_rest (paths_in model globals (regions model)) (variables_in model globals) (timers_in model globals)
 
-stopped_same : (model : Model) (globals : Globals) → stopped_answer model.types (among globals model) globals.cells ≡ told (stopped_end model globals)
+stopped_same : (model : Model) (globals : Globals) → stopped_answer (seen model globals) (among globals model) ≡ told (stopped_end model globals)
 stopped_same model globals =
     ap (λ b. answer_if b advance.Stopped) (variables_same model globals) ∙ told_stopped (variables_in model globals)
 
-fault_same : (model : Model) (globals : Globals) (z : ℤ) → fault_answer model.types (among globals model) globals.cells z ≡ told (fault_end model globals z)
+fault_same : (model : Model) (globals : Globals) (z : ℤ) → fault_answer (seen model globals) (among globals model) z ≡ told (fault_end model globals z)
 fault_same model globals z =
-    ap (λ b. fault_of (b && timers_held (among globals model) globals.cells) (kind_numbered z) (place_of_fault globals)) (variables_same model globals)
+    ap (λ b. fault_of (b && timers_held (seen model globals).number (among globals model)) (kind_numbered z) (place_of_fault globals)) (variables_same model globals)
     ∙ ap (λ b. fault_of (is_some (variables_in model globals) && b) (kind_numbered z) (place_of_fault globals)) (timers_same model globals)
     ∙ told_fault (kind_numbered z) (place_of_fault globals) (variables_in model globals) (timers_in model globals)
 
-by_stopped_same : (model : Model) (globals : Globals) (a : Option ℤ) → by_stopped model.types (among globals model) globals.cells a ≡ told (a >>= end_without_fault model globals)
+by_stopped_same : (model : Model) (globals : Globals) (a : Option ℤ) → by_stopped (seen model globals) (among globals model) a ≡ told (a >>= end_without_fault model globals)
 by_stopped_same model globals None = refl
 by_stopped_same model globals (Some (pos zero)) = rest_same model globals
 by_stopped_same model globals (Some (pos (suc n))) = stopped_same model globals
 by_stopped_same model globals (Some (negsuc n)) = stopped_same model globals
 
-by_kind_same : (model : Model) (globals : Globals) (a : Option ℤ) → by_kind model.types (among globals model) globals.cells a ≡ told (a >>= end_by_kind model globals)
+by_kind_same : (model : Model) (globals : Globals) (a : Option ℤ) → by_kind (seen model globals) (among globals model) a ≡ told (a >>= end_by_kind model globals)
 by_kind_same model globals None = refl
 by_kind_same model globals (Some (pos zero)) = by_stopped_same model globals (number_named globals interface.stopped_name)
 by_kind_same model globals (Some (pos (suc n))) = fault_same model globals (pos (suc n))
 by_kind_same model globals (Some (negsuc n)) = fault_same model globals (negsuc n)
 
-pub end_same : (model : Model) (names : List (List ℕ)) (cells : List Cells) → end_answer model.types (interface_among names model) cells ≡ answer_at_end (end_of model names cells)
+pub end_same : (model : Model) (names : List (List ℕ)) (cells : List Cells) → end_answer (in_trees model.types cells) (interface_among names model) ≡ answer_at_end (end_of model names cells)
 unfolding end_of
 end_same model names cells =
     let globals : Globals = record { names = names; cells = cells } in by_kind_same model globals (number_named globals interface.kind_name)
 
 -- ---- numbers below a bound
-
-range_get : {B : Type 0} (f : ℕ → B) (a n k j : ℕ) → k < n → a + k ≡ j → slice_get (map f (range_with_len a n)) k ≡ Some (f j)
-range_get f a zero k j lt e = absurd (omega arith)
-range_get f a (suc n) zero j lt e = let same : a ≡ j = omega (arith, e) in ap (λ i. Some (f i)) same
-range_get f a (suc n) (suc k) j lt e = range_get f (a + 1) n k j (omega arith) (omega (arith, e))
 
 range_past : {B : Type 0} (f : ℕ → B) (a n k : ℕ) → n ≤ k → slice_get (map f (range_with_len a n)) k ≡ None
 range_past f a zero zero le = refl
@@ -225,22 +224,22 @@ shown_there : {A B : Type 0} (o : Option A) (f : A → B) → is_some o ≡ is_s
 shown_there o f = sym (leaf_there o f)
 
 pub shows_same : (model : Model) (names : List (List ℕ)) (cells : List Cells) (e : EventId)
-    → shows model.types (interface_among names model) cells e ≡ is_some (event_shown model (record { names = names; cells = cells }) e)
+    → shows (in_trees model.types cells) (interface_among names model) e ≡ is_some (event_shown model (record { names = names; cells = cells }) e)
 shows_same model names cells (event.Output k) =
     let globals : Globals = record { names = names; cells = cells } in
-    ap (λ slots. are_held model.types cells slots) (outputs_same model names k)
+    ap (λ slots. are_held (in_trees model.types cells) slots) (outputs_same model names k)
     ∙ sym (values_there model globals (interface.outputs_of model k))
     ∙ shown_there (values_of model globals (interface.outputs_of model k)) (λ vs. shown.Output k vs)
 shows_same model names cells (event.Set k) =
     let globals : Globals = record { names = names; cells = cells } in
-    ap (λ place. is_some (duration_at cells place)) (duration_same model names k)
-    ∙ shown_there (duration_at cells (duration_place names model k)) (λ d. shown.Set k d)
+    ap (λ place. is_some (duration_at (in_trees model.types cells).number place)) (duration_same model names k)
+    ∙ shown_there (duration_at (in_trees model.types cells).number (duration_place names model k)) (λ d. shown.Set k d)
 shows_same model names cells (event.Reset k) = refl
 
 -- ---- timers
 
 timer_by : (model : Model) (names : List (List ℕ)) (cells : List Cells) (o : Option NameId)
-    → (option_map (λ id. slot_named names (interface.timer_field model id)) o >>= λ slot. number_of cells slot.place)
+    → (option_map (λ id. slot_named names (interface.timer_field model id)) o >>= λ slot. (in_trees model.types cells).number slot.place)
     ≡ (o >>= λ timer. number_named (record { names = names; cells = cells }) (interface.timer_field model timer).name)
 timer_by model names cells None = refl
 timer_by model names cells (Some id) = refl
@@ -250,12 +249,32 @@ map_twice f g [] = refl
 map_twice f g (x ∷ xs) = ap (λ ys. g (f x) ∷ ys) (map_twice f g xs)
 
 pub timer_same : (model : Model) (names : List (List ℕ)) (cells : List Cells) (k : ℕ)
-    → timer_number (interface_among names model) cells k
+    → timer_number (in_trees model.types cells).number (interface_among names model) k
     ≡ (slice_get model.timers k >>= λ timer. number_named (record { names = names; cells = cells }) (interface.timer_field model timer).name)
 timer_same model names cells k =
-    ap (λ slots. slice_get slots k >>= λ slot. number_of cells slot.place) (map_twice (interface.timer_field model) (slot_named names) model.timers)
-    ∙ ap (λ o. o >>= λ slot. number_of cells slot.place) (slice_get-map (λ id. slot_named names (interface.timer_field model id)) model.timers k)
+    ap (λ slots. slice_get slots k >>= λ slot. (in_trees model.types cells).number slot.place) (map_twice (interface.timer_field model) (slot_named names) model.timers)
+    ∙ ap (λ o. o >>= λ slot. (in_trees model.types cells).number slot.place) (slice_get-map (λ id. slot_named names (interface.timer_field model id)) model.timers k)
     ∙ timer_by model names cells (slice_get model.timers k)
+
+-- ---- regions by their numbers
+
+leaf_is : (region : Region) (a : Option ℤ) → (a >>= leaf_in (length region.leaves)) ≡ (a >>= leaf_of region)
+leaf_is region None = refl
+leaf_is region (Some (pos n)) = refl
+leaf_is region (Some (negsuc n)) = refl
+
+leaf_by : (model : Model) (names : List (List ℕ)) (cells : List Cells) (o : Option Region)
+    → (option_map (region_slot names model) o >>= λ slot. (in_trees model.types cells).number slot.place >>= leaf_in slot.leaves)
+    ≡ (o >>= λ region. number_named (record { names = names; cells = cells }) (interface.region_field model region).name >>= leaf_of region)
+leaf_by model names cells None = refl
+leaf_by model names cells (Some region) = leaf_is region (number_named (record { names = names; cells = cells }) (interface.region_field model region).name)
+
+pub leaf_same : (model : Model) (names : List (List ℕ)) (cells : List Cells) (k : ℕ)
+    → leaf_at (in_trees model.types cells).number (interface_among names model) k
+    ≡ (slice_get (regions model) k >>= λ region. number_named (record { names = names; cells = cells }) (interface.region_field model region).name >>= leaf_of region)
+leaf_same model names cells k =
+    ap (λ o. o >>= λ slot. (in_trees model.types cells).number slot.place >>= leaf_in slot.leaves) (slice_get-map (region_slot names model) (regions model) k)
+    ∙ leaf_by model names cells (slice_get (regions model) k)
 
 le_none : (n : ℕ) → false ≡ nat_le (suc n) 0
 le_none n = grind (arith, nat_tests)

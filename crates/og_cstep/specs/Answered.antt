@@ -1,5 +1,5 @@
 -- The answers that tell what a statement shows and how a run has ended.
-use Rattle.std.specs.Prelude.{◌≡◌, List, [], ◌∷◌, map, Option, Some, None}
+use Rattle.std.specs.Prelude.{◌≡◌, ℤ, List, [], ◌∷◌, Option, Some, None}
 use Rattle.og_model.specs.declared.Model.{Model}
 use Rattle.og_model.specs.declared.StuckRule.TheVariants as stuck
 use Rattle.og_model.specs.declared.EventId.{EventId}
@@ -11,17 +11,16 @@ use Rattle.og_csubset.specs.declared.CProgram.{CProgram}
 use Rattle.og_csubset.specs.Kinds.{global_names}
 use Rattle.og_csubset.specs.Reads.{Globals, event_shown}
 use Rattle.og_csubset.specs.Run.{rule_of}
-use Rattle.og_ccells.specs.declared.cells.Tree.{Tree}
-use Rattle.og_ccells.specs.Trees.{cells_of}
+use Rattle.og_ccells.specs.Vectors.{trees_of}
 use Rattle.og_cstatement.specs.declared.position.Position.{Position}
-use Rattle.og_cstatement.specs.declared.position.Position.TheVariants as position
+use Rattle.og_cstatement.specs.declared.position.Standing.TheVariants as standing
 use Rattle.og_cstep.specs.declared.Advance.{Advance}
 use Rattle.og_cstep.specs.declared.Advance.TheVariants as advance
 use Rattle.og_cstep.specs.declared.Advance.TheVariants.{Moved, Event, Rest, Fault, Stopped}
 
--- the globals of a program, with the cells that code keeps
-abbrev pub globals_in : CProgram → List Tree → Globals
-globals_in program trees = record { names = global_names program; cells = map cells_of trees }
+-- the globals of a program, with the cells whose numbers stand in one vector
+abbrev pub globals_in : CProgram → List ℤ → Globals
+globals_in program xs = record { names = global_names program; cells = trees_of program xs }
 
 -- the event without its values
 abbrev pub id_of : shown.Event → EventId
@@ -46,7 +45,7 @@ answer_by ending (e ∷ events) (Running globals frame callers) = Event (id_of e
 -- the answer to the call of an event, and where the run then stands: it goes on where the event can be read
 abbrev pub AnswersBy : Option shown.Event → EventId → Position → Position → Advance → Type 0
 AnswersBy (Some e) id old new answer = (new ≡ old) × (answer ≡ Event id)
-AnswersBy None id old new answer = (new ≡ position.Stuck stuck.Value) × (answer ≡ advance.Stuck stuck.Value)
+AnswersBy None id old new answer = (new.standing ≡ standing.Stuck stuck.Value) × (answer ≡ advance.Stuck stuck.Value)
 
 abbrev pub Answers : CProgram → Model → List Cells → EventId → Position → Position → Advance → Type 0
 Answers program model cells id old new answer =

@@ -1,4 +1,5 @@
 pub mod Answered
+pub mod Entries
 pub mod Halted
 pub mod Inputs
 pub mod Interfaces

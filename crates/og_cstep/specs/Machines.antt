@@ -1,6 +1,6 @@
 -- A machine as its callers see it: its program and model, the cells of its globals, where its run is, and the last answer of a
 -- step; and what each call does to that.
-use Rattle.std.specs.Prelude.{◌≡◌, ℕ, ℤ, pos, negsuc, List, [], ◌∷◌, ◌++◌, Bool, true, false, not, nat_lt, Option, Some, None, map, length, slice_get, unwrap_or, ⊤}
+use Rattle.std.specs.Prelude.{◌≡◌, ℕ, ℤ, pos, negsuc, List, [], ◌∷◌, Bool, true, false, not, nat_lt, Option, Some, None, map, length, slice_get, unwrap_or, ⊤}
 use Rattle.og_types.specs.declared.Value.{Value}
 use Rattle.og_model.specs.declared.Model.{Model}
 use Rattle.og_model.specs.declared.Signal as signal
@@ -11,17 +11,16 @@ use Rattle.og_model.specs.Regions.{regions}
 use Rattle.og_model.specs.Shown as shown
 use Rattle.og_model.specs.Shown.{Stimulus}
 use Rattle.og_ir.specs.Arithmetic.{is_same}
-use Rattle.og_ir.specs.Cells as cells
 use Rattle.og_ir.specs.Cells.{◌>>=◌, Cells}
 use Rattle.og_ir.specs.Reading.{only_if}
 use Rattle.og_ir.specs.Steps.{Config, Running, Over, Broken, Ran}
 use Rattle.og_csubset.specs.declared.CProgram.{CProgram}
 use Rattle.og_csubset.specs.declared.LoadRule.{LoadRule}
 use Rattle.og_csubset.specs.Kinds.{first_globals, function_names, global_names}
-use Rattle.og_csubset.specs.Interface.{Field, region_field, timer_field, duration_of, inputs_of, start_function, signal_function, timer_function}
-use Rattle.og_csubset.specs.Reads.{Globals, number_named, duration_in, put_named, cells_of_shape, end_of}
+use Rattle.og_csubset.specs.Interface.{Field, region_field, variable_fields, timer_field, duration_of, inputs_of, outputs_of, start_function, signal_function, timer_function}
+use Rattle.og_csubset.specs.Reads.{Globals, number_named, duration_in, value_of_field, put_named, cells_of_shape, end_of}
 use Rattle.og_csubset.specs.Run.{begun}
-use Rattle.og_ccells.specs.Trees.{cells_of}
+use Rattle.og_ccells.specs.Vectors.{trees_of, numbers_of}
 use Rattle.og_cstatement.specs.declared.position.Position.{Position}
 use Rattle.og_cstatement.specs.Positions.{config_of}
 use Rattle.og_cstatement.specs.Links.{cells_after, step_of}
@@ -46,7 +45,7 @@ run_at program model globals position last =
     record { program = program; model = model; cells = globals; config = config_of globals position; last = last }
 
 abbrev pub run_of : Machine → Run
-run_of m = run_at m.program m.model (map cells_of m.globals) m.position m.last
+run_of m = run_at m.program m.model (trees_of m.program m.cells.items) m.position m.last
 
 -- ---- loading
 
@@ -140,11 +139,12 @@ is_running run k = is_not_zero (slice_get run.model.timers k >>= λ timer. numbe
 abbrev pub duration_of_timer : Run → ℕ → ℤ
 duration_of_timer run k = unwrap_or (duration_in (globals_of run) (duration_of run.model k)) (pos 0)
 
--- the numbers of cells, one after the other
-abbrev pub numbers_of : Cells → List ℤ
-numbers_of (cells.Cell z) = z ∷ []
-numbers_of cells.Empty = []
-numbers_of (cells.Both first others) = numbers_of first ++ numbers_of others
+-- the value of an output's parameter, counted from 0, and of a variable, none where its cells hold none
+abbrev pub argument_in : Run → ℕ → ℕ → Option Value
+argument_in run signal k = slice_get (outputs_of run.model signal) k >>= value_of_field run.model (globals_of run)
+
+abbrev pub variable_in : Run → ℕ → Option Value
+variable_in run k = slice_get (variable_fields run.model) k >>= value_of_field run.model (globals_of run)
 
 -- the number at an offset in a global
 abbrev pub number_at : Run → ℕ → ℕ → Option ℤ

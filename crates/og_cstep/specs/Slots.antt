@@ -1,18 +1,22 @@
 -- What globals say that go by their numbers: the numbers and values that they hold, how a run has ended, and which values can
 -- be read.
-use Rattle.std.specs.Prelude.{ℕ, zero, suc, ◌^◌, ℤ, pos, negsuc, List, [], ◌∷◌, Bool, true, ◌&&◌, if◌then◌else◌, nat_lt, Option, Some, None, slice_get, unwrap_or, Result, Ok, Err}
+use Rattle.std.specs.Prelude.{ℕ, zero, suc, ◌+◌, ◌^◌, ℤ, pos, negsuc, List, [], ◌∷◌, Bool, true, ◌&&◌, if◌then◌else◌, nat_lt, Option, Some, None, slice_get, slice_index_or, unwrap_or}
 use Rattle.std.specs.List.{list_all}
 use Rattle.std.specs.Option.{is_some}
 use Rattle.og_base.specs.declared.Place.{Place}
 use Rattle.og_types.specs.declared.Sort.{Sort}
+use Rattle.og_types.specs.declared.Value.{Value}
+use Rattle.og_types.specs.declared.Value.TheVariants.{Int}
 use Rattle.og_model.specs.declared.EventId.{EventId}
 use Rattle.og_model.specs.declared.EventId.TheVariants as event
 use Rattle.og_model.specs.declared.FaultKind.{FaultKind}
 use Rattle.og_model.specs.declared.StuckRule.TheVariants as stuck
 use Rattle.og_ir.specs.Cells.{◌>>=◌, Cells, number_in, global}
-use Rattle.og_ir.specs.Reading.{only_if, below, truth_in, value_in}
+use Rattle.og_ir.specs.Reading.{only_if, below, truth_in, value_in, blank}
 use Rattle.og_csubset.specs.Loading.{passes}
 use Rattle.og_csubset.specs.Reads.{kind_numbered, counted_from_1}
+use Rattle.og_ccells.specs.declared.layout.Extent.{Extent}
+use Rattle.og_ccells.specs.Vectors.{filled}
 use Rattle.og_cload.specs.declared.fields.Shape.{Shape}
 use Rattle.og_cload.specs.declared.fields.Shape.TheVariants.{Number, Typed}
 use Rattle.og_cstep.specs.declared.Advance.{Advance}
@@ -22,42 +26,90 @@ use Rattle.og_cstep.specs.declared.interface.Slot.{Slot}
 use Rattle.og_cstep.specs.declared.interface.RegionSlot.{RegionSlot}
 use Rattle.og_cstep.specs.declared.interface.SignalSlots.{SignalSlots}
 
+-- the number that the global at a place holds
+abbrev pub Numbers : Type 0
+Numbers = Option ℕ → Option ℤ
+
+-- What is seen of globals: the numbers that they hold, and the values that they hold of their shapes.
+pub record Sight : Type 0 where
+  pub number : Numbers
+  pub value : Slot → Option Value
+
+-- ---- in trees of cells
+
 abbrev pub cells_at : List Cells → Option ℕ → Option Cells
 cells_at globals place = place >>= λ k. global k globals
 
-abbrev pub number_of : List Cells → Option ℕ → Option ℤ
-number_of globals place = cells_at globals place >>= number_in
+abbrev pub shape_value : List Sort → Shape → Cells → Option Value
+shape_value sorts Number cells = number_in cells >>= λ z. Some (Int z)
+shape_value sorts (Typed t) cells = value_in sorts t cells
+
+abbrev pub in_trees : List Sort → List Cells → Sight
+in_trees sorts globals = record {
+  number = λ place. cells_at globals place >>= number_in;
+  value = λ slot. cells_at globals slot.place >>= shape_value sorts slot.shape;
+}
+
+-- ---- in one vector
+
+abbrev pub extent_at : List Extent → Option ℕ → Option Extent
+extent_at extents place = place >>= slice_get extents
+
+-- the number of a global that is one
+abbrev pub number_there : List ℤ → Extent → Option ℤ
+number_there xs extent = only_if extent.is_number (slice_index_or xs extent.offset (pos 0))
+
+abbrev pub integer_of : Option ℤ → Option Value
+integer_of number = number >>= λ z. Some (Int z)
+
+abbrev pub value_there : List Sort → List ℤ → Shape → Extent → Option Value
+value_there sorts xs Number extent = integer_of (number_there xs extent)
+value_there sorts xs (Typed t) extent = value_in sorts t (filled extent.offset (blank sorts t) xs)
+
+abbrev pub number_of : List Extent → List ℤ → Option ℕ → Option ℤ
+number_of extents xs place = extent_at extents place >>= number_there xs
+
+abbrev pub value_of : List Sort → List Extent → List ℤ → Slot → Option Value
+value_of sorts extents xs slot = extent_at extents slot.place >>= value_there sorts xs slot.shape
+
+abbrev pub value_if : List Sort → List Extent → List ℤ → Option Slot → Option Value
+value_if sorts extents xs slot = slot >>= value_of sorts extents xs
+
+abbrev pub in_vector : List Sort → List Extent → List ℤ → Sight
+in_vector sorts extents xs = record {
+  number = number_of extents xs;
+  value = value_of sorts extents xs;
+}
+
+-- the cell at an offset in a global
+abbrev pub cell_in : Extent → List ℤ → ℕ → Option ℤ
+cell_in extent xs k = only_if (nat_lt k extent.width) (slice_index_or xs (extent.offset + k) (pos 0))
+
+abbrev pub cell_of : List Extent → List ℤ → ℕ → ℕ → Option ℤ
+cell_of extents xs global k = slice_get extents global >>= λ extent. cell_in extent xs k
 
 -- ---- values
 
--- the cells hold a value of the shape
-abbrev pub holds_shape : List Sort → Shape → Cells → Bool
-holds_shape sorts Number cells = is_some (number_in cells)
-holds_shape sorts (Typed t) cells = is_some (value_in sorts t cells)
-
-abbrev pub holds_slot : List Sort → List Cells → Slot → Bool
-holds_slot sorts globals slot = passes (holds_shape sorts slot.shape) (cells_at globals slot.place)
-
-abbrev pub are_held : List Sort → List Cells → List Slot → Bool
-are_held sorts globals slots = list_all (holds_slot sorts globals) slots
+abbrev pub are_held : Sight → List Slot → Bool
+are_held sight slots = list_all (λ slot. is_some (sight.value slot)) slots
 
 abbrev pub is_truth : ℤ → Bool
 is_truth z = is_some (truth_in z)
 
-abbrev pub holds_truth : List Cells → Slot → Bool
-holds_truth globals slot = passes is_truth (number_of globals slot.place)
+abbrev pub holds_truth : Numbers → Slot → Bool
+holds_truth number slot = passes is_truth (number slot.place)
 
 -- no leaf, or one of so many
 abbrev pub is_leaf : ℕ → ℤ → Bool
 is_leaf leaves (negsuc n) = true
 is_leaf leaves (pos n) = nat_lt n leaves
 
-abbrev pub rests_in : List Cells → RegionSlot → Bool
-rests_in globals region = passes (is_leaf region.leaves) (number_of globals region.place)
+abbrev pub rests_in : Numbers → RegionSlot → Bool
+rests_in number region = passes (is_leaf region.leaves) (number region.place)
 
-abbrev pub duration_at : List Cells → Option ℕ → Option ℤ
-duration_at globals place = do
-  z ← number_of globals place
+abbrev pub duration_at : Numbers → Option ℕ → Option ℤ
+duration_at number place = do
+  z ← number place
   n ← below (2 ^ 31) z
   Some (pos n)
 
@@ -73,53 +125,53 @@ place_numbered in_file in_line in_column = do
   c ← counted_from_1 column
   Some (record { file = f; line = l; column = c })
 
-abbrev pub fault_place : Interface → List Cells → Option Place
-fault_place interface globals = place_numbered (number_of globals interface.file) (number_of globals interface.line) (number_of globals interface.column)
+abbrev pub fault_place : Numbers → Interface → Option Place
+fault_place number interface = place_numbered (number interface.file) (number interface.line) (number interface.column)
 
 -- where a global holds no value of its type or range, a run is stuck
 abbrev pub answer_if : Bool → Advance → Advance
 answer_if b answer = if b then answer else advance.Stuck stuck.Value
 
-abbrev pub variables_held : List Sort → Interface → List Cells → Bool
-variables_held sorts interface globals = are_held sorts globals interface.variables
+abbrev pub variables_held : Sight → Interface → Bool
+variables_held sight interface = are_held sight interface.variables
 
-abbrev pub timers_held : Interface → List Cells → Bool
-timers_held interface globals = list_all (holds_truth globals) interface.timers
+abbrev pub timers_held : Numbers → Interface → Bool
+timers_held number interface = list_all (holds_truth number) interface.timers
 
-abbrev pub regions_held : Interface → List Cells → Bool
-regions_held interface globals = list_all (rests_in globals) interface.regions
+abbrev pub regions_held : Numbers → Interface → Bool
+regions_held number interface = list_all (rests_in number) interface.regions
 
 abbrev pub fault_of : Bool → Option FaultKind → Option Place → Advance
 fault_of held None place = advance.Stuck stuck.Value
 fault_of held (Some kind) None = advance.Stuck stuck.Value
 fault_of held (Some kind) (Some place) = answer_if held (advance.Fault kind place)
 
-abbrev pub fault_answer : List Sort → Interface → List Cells → ℤ → Advance
-fault_answer sorts interface globals z =
-    fault_of (variables_held sorts interface globals && timers_held interface globals) (kind_numbered z) (fault_place interface globals)
+abbrev pub fault_answer : Sight → Interface → ℤ → Advance
+fault_answer sight interface z =
+    fault_of (variables_held sight interface && timers_held sight.number interface) (kind_numbered z) (fault_place sight.number interface)
 
-abbrev pub rest_answer : List Sort → Interface → List Cells → Advance
-rest_answer sorts interface globals =
-    answer_if (regions_held interface globals && (variables_held sorts interface globals && timers_held interface globals)) advance.Rest
+abbrev pub rest_answer : Sight → Interface → Advance
+rest_answer sight interface =
+    answer_if (regions_held sight.number interface && (variables_held sight interface && timers_held sight.number interface)) advance.Rest
 
-abbrev pub stopped_answer : List Sort → Interface → List Cells → Advance
-stopped_answer sorts interface globals = answer_if (variables_held sorts interface globals) advance.Stopped
+abbrev pub stopped_answer : Sight → Interface → Advance
+stopped_answer sight interface = answer_if (variables_held sight interface) advance.Stopped
 
-abbrev pub by_stopped : List Sort → Interface → List Cells → Option ℤ → Advance
-by_stopped sorts interface globals None = advance.Stuck stuck.Value
-by_stopped sorts interface globals (Some (pos zero)) = rest_answer sorts interface globals
-by_stopped sorts interface globals (Some (pos (suc n))) = stopped_answer sorts interface globals
-by_stopped sorts interface globals (Some (negsuc n)) = stopped_answer sorts interface globals
+abbrev pub by_stopped : Sight → Interface → Option ℤ → Advance
+by_stopped sight interface None = advance.Stuck stuck.Value
+by_stopped sight interface (Some (pos zero)) = rest_answer sight interface
+by_stopped sight interface (Some (pos (suc n))) = stopped_answer sight interface
+by_stopped sight interface (Some (negsuc n)) = stopped_answer sight interface
 
-abbrev pub by_kind : List Sort → Interface → List Cells → Option ℤ → Advance
-by_kind sorts interface globals None = advance.Stuck stuck.Value
-by_kind sorts interface globals (Some (pos zero)) = by_stopped sorts interface globals (number_of globals interface.stopped)
-by_kind sorts interface globals (Some (pos (suc n))) = fault_answer sorts interface globals (pos (suc n))
-by_kind sorts interface globals (Some (negsuc n)) = fault_answer sorts interface globals (negsuc n)
+abbrev pub by_kind : Sight → Interface → Option ℤ → Advance
+by_kind sight interface None = advance.Stuck stuck.Value
+by_kind sight interface (Some (pos zero)) = by_stopped sight interface (sight.number interface.stopped)
+by_kind sight interface (Some (pos (suc n))) = fault_answer sight interface (pos (suc n))
+by_kind sight interface (Some (negsuc n)) = fault_answer sight interface (negsuc n)
 
 -- how a run has ended whose last function has returned
-abbrev pub end_answer : List Sort → Interface → List Cells → Advance
-end_answer sorts interface globals = by_kind sorts interface globals (number_of globals interface.kind)
+abbrev pub end_answer : Sight → Interface → Advance
+end_answer sight interface = by_kind sight interface (sight.number interface.kind)
 
 -- ---- events
 
@@ -134,10 +186,10 @@ inputs_at (Some signal) = signal.inputs
 abbrev pub duration_slot : Interface → ℕ → Option ℕ
 duration_slot interface k = unwrap_or (slice_get interface.durations k) interface.no_duration
 
-abbrev pub shows : List Sort → Interface → List Cells → EventId → Bool
-shows sorts interface globals (event.Output k) = are_held sorts globals (outputs_at (slice_get interface.signals k))
-shows sorts interface globals (event.Set k) = is_some (duration_at globals (duration_slot interface k))
-shows sorts interface globals (event.Reset k) = true
+abbrev pub shows : Sight → Interface → EventId → Bool
+shows sight interface (event.Output k) = are_held sight (outputs_at (slice_get interface.signals k))
+shows sight interface (event.Set k) = is_some (duration_at sight.number (duration_slot interface k))
+shows sight interface (event.Reset k) = true
 
 -- ---- what a caller reads
 
@@ -145,14 +197,15 @@ abbrev pub leaf_in : ℕ → ℤ → Option ℕ
 leaf_in leaves (negsuc n) = None
 leaf_in leaves (pos n) = only_if (nat_lt n leaves) n
 
-abbrev pub leaf_at : Interface → List Cells → ℕ → Option ℕ
-leaf_at interface globals k = slice_get interface.regions k >>= λ region. number_of globals region.place >>= leaf_in region.leaves
+abbrev pub leaf_at : Numbers → Interface → ℕ → Option ℕ
+leaf_at number interface k = slice_get interface.regions k >>= λ region. number region.place >>= leaf_in region.leaves
 
-abbrev pub timer_number : Interface → List Cells → ℕ → Option ℤ
-timer_number interface globals k = slice_get interface.timers k >>= λ slot. number_of globals slot.place
+abbrev pub timer_number : Numbers → Interface → ℕ → Option ℤ
+timer_number number interface k = slice_get interface.timers k >>= λ slot. number slot.place
 
--- the number at a place of a list, or what is left of the place behind the list
-abbrev pub at_or_left : List ℤ → ℕ → Result ℤ ℕ
-at_or_left [] k = Err k
-at_or_left (z ∷ numbers) zero = Ok z
-at_or_left (z ∷ numbers) (suc k) = at_or_left numbers k
+-- the globals of an output's parameters and of a signal's inputs, by the places of the parameters
+abbrev pub output_slot : Interface → ℕ → ℕ → Option Slot
+output_slot interface signal k = slice_get (outputs_at (slice_get interface.signals signal)) k
+
+abbrev pub input_slot : Interface → ℕ → ℕ → Option Slot
+input_slot interface signal k = slice_get (inputs_at (slice_get interface.signals signal)) k

@@ -4,7 +4,7 @@ ghost use Rattle.og_cstep.specs.Halted.{stuck_rule};
 ghost use Rattle.og_cstep.specs.Machines.{run_of};
 
 use crate::Machine;
-use og_cstatement::Position;
+use og_cstatement::Standing;
 use og_model::StuckRule;
 
 impl Machine {
@@ -12,8 +12,8 @@ impl Machine {
     pub fn stuck(&self) -> Option<StuckRule>
         ensures { result ≡ stuck_rule (run_of self.now).config }
     {
-        match self.position {
-            Position::Stuck(rule) => Some(rule),
+        match self.position.standing {
+            Standing::Stuck(rule) => Some(rule),
             _ => None,
         }
     }

@@ -4,17 +4,19 @@
 ghost use Rattle.std.specs.Prelude.{◌≡◌, IfOk, map, length};
 ghost use Rattle.std.specs.Option.{is_some};
 ghost use Rattle.og_model.specs.Regions.{regions as regions_of};
-ghost use Rattle.og_ccells.specs.Trees.{cells_of};
+ghost use Rattle.og_ccells.specs.Layouts.{layout_of};
+ghost use Rattle.og_ccells.specs.Vectors.{trees_of};
 ghost use Rattle.og_cstep.specs.Answered.{answer_at_end, globals_in};
 ghost use Rattle.og_csubset.specs.Interface.{numbers_below, variable_fields, timer_fields};
 ghost use Rattle.og_csubset.specs.Kinds.{global_names, place_in as place_among};
+ghost use Rattle.og_csubset.specs.Loading.{Loads};
 ghost use Rattle.og_csubset.specs.Reads.{end_of, event_shown};
 ghost use Rattle.og_cload.specs.Fields.{field_of, fields_in};
 ghost use Rattle.og_cstep.specs.Interfaces.{interface_of, interface_among, slot_named, slots_named, region_slot as slot_of_region, signal_slots as slots_of_signal, duration_place as place_of_duration};
 
 use crate::Advance;
 use crate::ends::{end_answer, shows};
-use og_ccells::Tree;
+use og_ccells::Layout;
 use og_cload::fields::{
     Field, Shape, add_inputs, add_timer_fields, add_variables, count_of, duration_name, outputs_of,
     region_name,
@@ -234,25 +236,33 @@ fn signal_slots(
 pub fn answer_of_end(
     program: &CProgram,
     model: &Model,
+    layout: &Layout,
     interface: &Interface,
-    globals: &[Tree],
+    cells: &[i64],
 ) -> Advance
-    requires { interface.now ≡ interface_of program.now model.now }
-    ensures { result ≡ answer_at_end (end_of model.now (global_names program.now) (map cells_of globals.now)) }
+    requires loads { Loads program.now model.now }
+    requires layout { layout.now ≡ layout_of program.now }
+    requires interface { interface.now ≡ interface_of program.now model.now }
+    ensures { result ≡ answer_at_end (end_of model.now (global_names program.now) (trees_of program.now cells.now)) }
 {
-    end_answer(model.types.as_slice(), interface, globals)
+    let extents = layout.extents.as_slice();
+    end_answer(model.types.as_slice(), extents, cells, interface)
 }
 
 /// Whether the values of an event can be read.
 pub fn can_show(
     program: &CProgram,
     model: &Model,
+    layout: &Layout,
     interface: &Interface,
-    globals: &[Tree],
+    cells: &[i64],
     event: EventId,
 ) -> bool
-    requires { interface.now ≡ interface_of program.now model.now }
-    ensures { result ≡ is_some (event_shown model.now (globals_in program.now globals.now) event) }
+    requires loads { Loads program.now model.now }
+    requires layout { layout.now ≡ layout_of program.now }
+    requires interface { interface.now ≡ interface_of program.now model.now }
+    ensures { result ≡ is_some (event_shown model.now (globals_in program.now cells.now) event) }
 {
-    shows(model.types.as_slice(), interface, globals, event)
+    let extents = layout.extents.as_slice();
+    shows(model.types.as_slice(), extents, cells, interface, event)
 }

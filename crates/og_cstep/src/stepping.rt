@@ -1,31 +1,27 @@
 //! A program that is run.
-ghost use Rattle.std.specs.Prelude.{◌≡◌, List, [], Option, None, Some, map, IfOk, IfErr, OnOk, OnErr, IsTrue};
+ghost use Rattle.std.specs.Prelude.{◌≡◌, List, [], Option, None, Some, length, IfOk, IfErr, IsTrue};
 ghost use Rattle.og_model.specs.Regions.{regions as regions_of};
-ghost use Rattle.og_csubset.specs.Kinds.{place_in as place_among};
-ghost use Rattle.og_csubset.specs.Loading.{first_load_rule};
-ghost use Rattle.og_csubset.specs.Run.{entered as entered_at};
-ghost use Rattle.og_ir.specs.Cells.{Cells};
+ghost use Rattle.og_csubset.specs.Loading.{first_load_rule, Loads, cells_of_globals};
 ghost use Rattle.og_cstatement.specs.Positions.{config_of};
 ghost use Rattle.og_csubset.specs.Kinds.{global_names};
 ghost use Rattle.og_csubset.specs.Reads.{end_of};
-ghost use Rattle.og_ccells.specs.Trees.{cells_of};
+ghost use Rattle.og_ccells.specs.Layouts.{layout_of};
+ghost use Rattle.og_ccells.specs.Vectors.{trees_of};
 ghost use Rattle.og_cstatement.specs.Links.{linked_of};
 ghost use Rattle.og_cstep.specs.declared.Advance.{Advance as Answer};
 ghost use Rattle.og_cstep.specs.Answered.{answer_by, Answers};
 ghost use Rattle.og_cstep.specs.Interfaces.{interface_of};
-ghost use Rattle.og_cstep.specs.Machines.{run_of, run_at, loaded as loaded_run, Refuses, CanBegin, is_stimulus_of, begins, function_name, advanced};
+ghost use Rattle.og_cstep.specs.Machines.{run_of, run_at, loaded as loaded_run, Refuses, CanBegin, is_stimulus_of, begins, advanced};
 
+use crate::entries::{enter, entry_of, find_entries};
 use crate::interface::{Interface, answer_of_end, can_show, find_interface};
 use crate::{Advance, LoadError, Machine};
-use og_ccells::{Tree, first_globals};
+use og_ccells::{Layout, first_cells};
 use og_cload::broken_rule;
-use og_cload::fields::{joined, signal_name, timer_name};
-use og_cstatement::{Call, Linked, Position, link, step};
-use og_csubset::{CFunction, CProgram};
+use og_cstatement::{Linked, Position, Standing, link, step};
+use og_csubset::CProgram;
 use og_model::{EventId, Model, StimId, StuckRule};
-use og_names::{NoMemory, Word};
 use og_regions::Regions;
-use sqlite_items::Items;
 use std::alloc::Global;
 
 impl Machine {
@@ -45,75 +41,84 @@ impl Machine {
         if let Some(rule) = broken_rule(alloc, program, model, regions.list.as_slice())? {
             return Err(LoadError::BadProgram(rule));
         }
-        let linked = link(alloc, program, model)?;
+        let layout = Layout::of(alloc, program)?;
+        let linked = link(alloc, program, model, &layout)?;
         let interface = find_interface(alloc, program, model, regions.list.as_slice())?;
-        let globals = first_globals(alloc, program)?;
+        let entries = find_entries(alloc, program, model)?;
+        let cells = first_cells(alloc, program, &layout)?;
+        let position = Position::new(alloc, program.functions.len())?;
         let program = program.copy(alloc)?;
         let model = model.copy(alloc)?;
         Ok(Machine {
             program,
             model,
+            layout,
             linked,
             interface,
-            globals,
-            position: Position::Idle,
+            entries,
+            cells,
+            position,
             last: None,
-            alloc,
         })
     }
 
     /// A stimulus calls its function. Nothing runs, and neither a fault nor Stuck came before.
-    pub fn begin(&mut self, stimulus: StimId) -> Result<(), NoMemory>
+    pub fn begin(&mut self, stimulus: StimId)
         requires idle { CanBegin (run_of self.old).config (run_of self.old).last }
         requires stimulus { IsTrue (is_stimulus_of (run_of self.old).model stimulus) }
-        ensures begun { OnOk result (run_of self.new ≡ begins stimulus (run_of self.old)) }
-        ensures kept { OnErr result (run_of self.new ≡ run_of self.old) }
+        ensures { run_of self.new ≡ begins stimulus (run_of self.old) }
     {
-        let name = function_of(self.alloc, &self.model, stimulus)?;
-        let found = place_in(name.bytes.as_slice(), self.program.functions.as_slice());
-        self.position = entered(self.alloc, found);
-        Ok(())
+        let function = entry_of(&self.entries, stimulus);
+        enter(&mut self.position, function);
     }
 
     /// Carries out one statement.
-    pub fn advance(&mut self) -> Result<Advance, NoMemory>
-        ensures moved { OnOk result (run_of self.new ≡ advanced (run_of self.old)) }
-        ensures answered { IfOk result (λ answer. Some answer ≡ (run_of self.new).last) }
+    pub fn advance(&mut self) -> Advance
+        ensures moved { run_of self.new ≡ advanced (run_of self.old) }
+        ensures answered { Some result ≡ (run_of self.new).last }
     {
         let answer = take_step(
-            self.alloc,
             &self.program,
             &self.model,
+            &self.layout,
             &self.linked,
             &self.interface,
-            &mut self.globals,
+            &mut self.cells,
             &mut self.position,
-        )?;
+        );
         self.last = Some(answer);
-        Ok(answer)
+        answer
     }
 }
 
 /// Carries out one statement of a program over a model.
 fn take_step(
-    alloc: Global,
     program: &CProgram,
     model: &Model,
+    layout: &Layout,
     linked: &Linked,
     interface: &Interface,
-    globals: &mut Items<Tree>,
+    cells: &mut Vec<i64>,
     position: &mut Position,
-) -> Result<Advance, NoMemory>
+) -> Advance
+    requires loads { Loads program.now model.now }
+    requires layout { layout.now ≡ layout_of program.now }
     requires linked { linked.now ≡ linked_of program.now model.now }
     requires interface { interface.now ≡ interface_of program.now model.now }
-    ensures { IfOk result (λ answer. (last : Option Answer) → run_at program.now model.now (map cells_of globals.new) position.new (Some answer) ≡ advanced (run_at program.now model.now (map cells_of globals.old) position.old last)) }
+    requires cells { length cells.old.items ≡ cells_of_globals program.now }
+    ensures moved { (last : Option Answer) → run_at program.now model.now (trees_of program.now cells.new.items) position.new (Some result)
+        ≡ advanced (run_at program.now model.now (trees_of program.now cells.old.items) position.old last) }
+    ensures cells { length cells.new.items ≡ cells_of_globals program.now }
+    ensures functions { position.new.functions ≡ position.old.functions }
 {
-    let called = step(alloc, program, model, linked, globals, position)?;
-    match called {
-        None => { Ok(answer_at(program, model, interface, globals.as_slice(), position)) }
+    match step(program, model, linked, cells, position) {
+        None => {
+            let cells = cells.as_slice();
+            answer_at(program, model, layout, interface, cells, position)
+        }
         Some(event) => {
-            let trees = globals.as_slice();
-            Ok(answer_of_event(program, model, interface, trees, position, event))
+            let cells = cells.as_slice();
+            answer_of_event(program, model, layout, interface, cells, position, event)
         }
     }
 }
@@ -122,17 +127,20 @@ fn take_step(
 fn answer_at(
     program: &CProgram,
     model: &Model,
+    layout: &Layout,
     interface: &Interface,
-    globals: &[Tree],
+    cells: &[i64],
     position: &Position,
 ) -> Advance
-    requires { interface.now ≡ interface_of program.now model.now }
-    ensures { result ≡ answer_by (end_of model.now (global_names program.now)) [] (config_of (map cells_of globals.now) position.now) }
+    requires loads { Loads program.now model.now }
+    requires layout { layout.now ≡ layout_of program.now }
+    requires interface { interface.now ≡ interface_of program.now model.now }
+    ensures { result ≡ answer_by (end_of model.now (global_names program.now)) [] (config_of (trees_of program.now cells.now) position.now) }
 {
-    match position {
-        Position::Running(_, _) => Advance::Moved,
-        Position::Idle => answer_of_end(program, model, interface, globals),
-        Position::Stuck(rule) => Advance::Stuck(*rule),
+    match position.standing {
+        Standing::Running(_) => Advance::Moved,
+        Standing::Idle => answer_of_end(program, model, layout, interface, cells),
+        Standing::Stuck(rule) => Advance::Stuck(rule),
     }
 }
 
@@ -140,51 +148,21 @@ fn answer_at(
 fn answer_of_event(
     program: &CProgram,
     model: &Model,
+    layout: &Layout,
     interface: &Interface,
-    globals: &[Tree],
+    cells: &[i64],
     position: &mut Position,
     event: EventId,
 ) -> Advance
-    requires { interface.now ≡ interface_of program.now model.now }
-    ensures { Answers program.now model.now (map cells_of globals.now) event position.old position.new result }
+    requires loads { Loads program.now model.now }
+    requires layout { layout.now ≡ layout_of program.now }
+    requires interface { interface.now ≡ interface_of program.now model.now }
+    ensures answers { Answers program.now model.now (trees_of program.now cells.now) event position.old position.new result }
+    ensures functions { position.new.functions ≡ position.old.functions }
 {
-    if can_show(program, model, interface, globals, event) {
+    if can_show(program, model, layout, interface, cells, event) {
         return Advance::Event(event);
     }
-    *position = Position::Stuck(StuckRule::Value);
+    position.stop(StuckRule::Value);
     Advance::Stuck(StuckRule::Value)
-}
-
-/// A call of a function from outside.
-fn entered(alloc: Global, function: Option<usize>) -> Position
-    ensures { (globals : List Cells) → config_of globals result ≡ entered_at function globals }
-{
-    match function {
-        None => Position::Stuck(StuckRule::Value),
-        Some(function) => Position::Running(Call { function, place: 0 }, Vec::new(alloc)),
-    }
-}
-
-/// The function that a stimulus calls.
-fn function_of(alloc: Global, model: &Model, stimulus: StimId) -> Result<Word, NoMemory>
-    ensures { IfOk result (λ name. name.bytes ≡ function_name model.now stimulus) }
-{
-    match stimulus {
-        StimId::Start => joined(alloc, b"start", b""),
-        StimId::Signal(signal) => joined(alloc, b"on_", signal_name(model, signal)),
-        StimId::Timer(timer) => joined(alloc, b"at_", timer_name(model, timer)),
-    }
-}
-
-/// The number of a function.
-#[tactic(auto, using(og_names::proofs::Loops::loops, og_cload::proofs::Places::places))]
-fn place_in(name: &[u8], functions: &[CFunction]) -> Option<usize>
-    ensures { result ≡ place_among name.now (map (λ f. f.name.bytes) functions.now) }
-{
-    for (place, function) in functions.iter().enumerate() {
-        if name == function.name.bytes.as_slice() {
-            return Some(place);
-        }
-    }
-    None
 }

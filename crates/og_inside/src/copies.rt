@@ -1,7 +1,6 @@
 //! Copies of trees that no file gives yet.
 
 use og_base::Place;
-use og_ccells::{Tree, tree_of_value};
 use og_ir::{Case, Flat, FlatFn, FlatOp, FlatRel, Instr, Ir, Slot, SlotDef, SlotSort, Step2, Test};
 use og_model::{
     Action, Arg, BinaryOp, Block, Branch, EndKind, Ending, Expr, ExprSort, Node, Proc, Select,
@@ -211,13 +210,6 @@ fn copied_types_and_values_are_alike(rt: HostRuntime) -> Result<(), Fail> {
         item: TypeId(0),
     };
     assert!(rt; matches!(sort.copy(rt.alloc())?, Sort::SeqOf { lo: 0, hi: 9, .. }));
-    let tree = tree_of_value(
-        rt.alloc(),
-        &[sort],
-        TypeId(0),
-        &Value::SeqOf(Items::new(rt.alloc())),
-    )?;
-    assert!(rt; matches!(tree, Tree::Row(_)));
     let mut items = Items::new(rt.alloc());
     items.push(Value::Bool(true))?;
     let value = Value::SeqOf(items);

@@ -21,8 +21,6 @@ pub enum Action {
     Read,
     /// `write FILE`: each line of the file is written.
     Write,
-    /// `steps FILE FUNCTION COUNT`: statements of a function, without the rules that a program is loaded by.
-    Steps,
     /// `machine FILE COUNT`: statements of the start of a program that is loaded over a model with a timer.
     Machine,
 }
@@ -39,7 +37,6 @@ pub fn action_of(word: &str) -> Option<Action> {
         "stimuli" => Some(Action::Stimuli),
         "read" => Some(Action::Read),
         "write" => Some(Action::Write),
-        "steps" => Some(Action::Steps),
         "machine" => Some(Action::Machine),
         _ => None,
     }

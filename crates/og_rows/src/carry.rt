@@ -8,7 +8,6 @@ use crate::files::{show_read, show_write};
 use crate::machine::show_machine;
 use crate::names::show_names;
 use crate::section::{Line, Opening, Section};
-use crate::steps::show_steps;
 use crate::stimuli::show_stimuli;
 use crate::tokens::show_tokens;
 use crate::tree::{show_place, show_tree};
@@ -78,7 +77,6 @@ fn show_action(alloc: Global, case: &mut Case, out: &mut String) -> Result<(), W
         Action::Stimuli => show_stimuli(alloc, one_file(case)?, out)?,
         Action::Write => show_write(alloc, case, one_file(case)?, out)?,
         Action::Read => return show_read(alloc, case, out),
-        Action::Steps => return show_steps(alloc, case, out),
         Action::Machine => return show_machine(alloc, case, out),
     }
     Ok(())

@@ -4,11 +4,10 @@ ghost use Rattle.og_model.specs.Regions.{regions as regions_of};
 
 use crate::case::{Case, Wrong, number_of};
 use crate::models::small_model;
-use crate::steps::show_event;
 use crate::tree::show_error;
 use og_base::Place;
 use og_cread::read_c;
-use og_cstep::{Advance, LoadError, Machine, StimId};
+use og_cstep::{Advance, EventId, LoadError, Machine, StimId};
 use og_csubset::CProgram;
 use og_model::Model;
 use og_regions::{Regions, number};
@@ -57,7 +56,7 @@ fn started(
     requires { regions.now.list ≡ regions_of model.now }
 {
     let mut machine = Machine::load(alloc, program, model, regions)?;
-    machine.begin(StimId::Start)?;
+    machine.begin(StimId::Start);
     Ok(machine)
 }
 
@@ -70,13 +69,20 @@ fn show_start(mut machine: Machine, count: u64, out: &mut String) -> Result<(), 
 fn show_run(machine: &mut Machine, count: u64, out: &mut String) -> Result<(), AllocError> {
     for _ in 0..count {
         match machine.advance() {
-            Err(_) => return out.push_str("no memory\n"),
-            Ok(Advance::Moved) => {}
-            Ok(Advance::Event(event)) => show_event(event, out)?,
-            Ok(answer) => return show_end(answer, out),
+            Advance::Moved => {}
+            Advance::Event(event) => show_event(event, out)?,
+            answer => return show_end(answer, out),
         }
     }
     out.push_str("past\n")
+}
+
+fn show_event(event: EventId, out: &mut String) -> Result<(), AllocError> {
+    match event {
+        EventId::Output(number) => write!(out, "output {number}\n"),
+        EventId::Set(number) => write!(out, "set {number}\n"),
+        EventId::Reset(number) => write!(out, "reset {number}\n"),
+    }
 }
 
 fn show_end(answer: Advance, out: &mut String) -> Result<(), AllocError> {

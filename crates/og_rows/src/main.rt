@@ -11,7 +11,6 @@ mod machine;
 mod models;
 mod names;
 mod section;
-mod steps;
 mod stimuli;
 mod tokens;
 mod tree;

@@ -80,7 +80,7 @@ fn show_step(
     ensures answer { IfOk result (λ answer. answer ≡ answer_of (run_of machine.old)) }
     ensures events { OnOk result (out.new.items ≡ out.old.items ++ flat_map (event_line model.now) (next_step (run_of machine.old)).events) }
 {
-    let answer = machine.advance()?;
+    let answer = machine.advance();
     show_answer(alloc, machine, model, answer, out)?;
     Ok(answer)
 }

@@ -80,7 +80,7 @@ fn show_one(
         (run_of machine.new)) }
 {
     show_name(alloc, scene.model, stimulus, out)?;
-    machine.begin(stimulus)?;
+    machine.begin(stimulus);
     let answer = show_events(alloc, machine, scene.model, steps, out)?;
     show_ending(
         alloc,

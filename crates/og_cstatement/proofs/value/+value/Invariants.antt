@@ -1,11 +1,9 @@
 use Rattle.std.proofs.Common.{map}
-use Rattle.og_ccells.specs.Trees.{cells_of}
-use Rattle.og_cstatement.specs.Meaning.{all_selected, selected}
+use Rattle.og_cstatement.specs.Meaning.{reached, distance_of}
+use Rattle.og_cstatement.specs.declared.code.Place.{out-Place}
 use Rattle.og_names.proofs.Loops.{Left}
-use Rattle.og_cstatement.proofs.Valued.{prefixed}
 use Rattle.og_cstatement.proofs.value.+value.Given as goal
 
-abbrev pub invariant-walk-loop-selector : goal.invariant-walk-loop-selector
-invariant-walk-loop-selector l =
-    Left (λ ys. prefixed l.places.items (all_selected (map (selected (map cells_of l.globals)) ys))) l.path l.selector-index
-    (all_selected (map (selected (map cells_of l.globals)) l.path))
+abbrev pub invariant-place_of-loop-term : goal.invariant-place_of-loop-term
+invariant-place_of-loop-term l =
+    Left (λ ys. reached l.at (map (distance_of l.cells) ys)) l.term-items l.term-index (reached (out-Place l.place).offset (map (distance_of l.cells) (out-Place l.place).terms))
