@@ -10,7 +10,7 @@ use Rattle.og_csubset.specs.Paced.{Pace, IsPace, IsSafe, paced, paced_size}
 use Rattle.og_csubset.proofs.PacedRuns.{paced_at_one}
 use Rattle.og_flatten.specs.Code.{enough_at}
 use Rattle.og_flatten.specs.FlatCode.{code_of}
-use Rattle.og_flatten.proofs.Agreeing.{same_runs}
+use Rattle.og_follow.proofs.Agreeing.{same_runs}
 use Rattle.og_flatten.proofs.Simulation.{IsBasic, machine_of, Rests, Halts, simulates}
 
 pub runs : (model : Model) → IsBasic model → (pace : Pace) → IsPace pace

@@ -8,10 +8,6 @@ pub mod Shapes
 pub mod Numbered
 pub mod Named
 pub mod Apart
-pub mod PacedSteps
-pub mod Agreeing
-pub mod Passing
-pub mod Tracks
 pub mod SingleSteps
 pub mod Places
 pub mod Basic

@@ -41,9 +41,10 @@ use Rattle.og_csubset.specs.Reads.{Globals, path_of, all_of, values_of, number_n
 use Rattle.og_ir.specs.Reading.{truth_in}
 use Rattle.og_csubset.specs.Run.{Machine, entered}
 use Rattle.og_flatten.specs.FlatCode.{code_of, transition_function, transition_code, start_function, signal_function, signal_code, signal_end, first_entering, entering_place, end_place, states_of, bodies_of, bodies_code, body_cases, length_of_bodies, entering_code, choice_code, choices_code, choice_cases, is_input, handler_in, start_body, sets, region, chosen, read, is_stopped}
-use Rattle.og_flatten.proofs.Agreeing.{AtRest, AtHalt, AnswersBy, Answers, Ended, RunsOn, Simulates}
-use Rattle.og_flatten.proofs.Passing.{Passed, none_passed, with_place, elsewhere, not_there}
-use Rattle.og_flatten.proofs.Tracks.{begins, ends, runs_on}
+use Rattle.og_follow.specs.Answers.{AtRest, AtHalt, AnswersBy, Answers, Ended, RunsOn, Simulates}
+use Rattle.og_follow.specs.Passing.{Passed, none_passed, with_place}
+use Rattle.og_follow.proofs.Passing.{elsewhere, not_there}
+use Rattle.og_follow.proofs.Tracks.{begins, ends, runs_on}
 use Rattle.og_flatten.proofs.SingleSteps.{slots_at, step_of, sets_region, sets_chosen, table_of_chosen, table_of_region, not_stopped}
 use Rattle.og_flatten.proofs.Places.{HasAt, BodyAt, bodies_placed, entering_placed, length_of_all, ChoiceAt, handled_placed, not_handled, has_at}
 use Rattle.og_flatten.proofs.Basic.{body_is, StateIs, state_is, start_is}

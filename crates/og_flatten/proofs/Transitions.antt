@@ -19,8 +19,10 @@ use Rattle.og_ir.specs.Steps.{Frame, Config, Running, quiet, jumped, showing}
 use Rattle.og_csubset.specs.FlatRun.{flat_event}
 use Rattle.og_csubset.specs.Paced.{Pace, IsPace}
 use Rattle.og_flatten.specs.FlatCode.{code_of, transition_function, transition_code, first_entering, entering_place, end_place, action_at, step_at, kind_at, ending_at}
-use Rattle.og_flatten.proofs.Passing.{Passed, none_passed, with_place, elsewhere, not_there}
-use Rattle.og_flatten.proofs.Tracks.{Track, Stands, since, goes_on, begins_unit}
+use Rattle.og_follow.specs.Passing.{Passed, none_passed, with_place}
+use Rattle.og_follow.specs.Tracks.{Track, Stands, since}
+use Rattle.og_follow.proofs.Passing.{elsewhere, not_there}
+use Rattle.og_follow.proofs.Tracks.{goes_on, begins_unit}
 use Rattle.og_flatten.proofs.SingleSteps.{step_of, acts, fetches}
 use Rattle.og_flatten.proofs.Places.{HasAt}
 use Rattle.og_flatten.proofs.Basic.{StepsAre}
@@ -48,7 +50,7 @@ stands M f p g i at is = record { function = g; at = at; within = below (slice_g
 -- an instruction that begins a unit
 pub unit_at : (M : Model) (pace : Pace) → IsPace pace → (first : Config) (units statements : ℕ) (events shown : List Event) (seen : Passed) (slots : List Cells) (f p : ℕ) (callers : List Frame) (g : FlatFn) (i : Instr) (next : Config) → Followed M pace first units statements events seen (Running slots (frame f p) callers) → slice_get (code_of M).functions f ≡ Some g → slice_get g.code p ≡ Some i → seen f p ≡ false → acts M slots (frame f p) callers i ≡ record { events = shown; config = next } → Followed M pace first (suc units) (statements + pace f p) (events ++ shown) (since units seen f p) next
 unit_at M pace is_pace first units statements events shown seen slots f p callers g i next track at is new does =
-    begins_unit (step_of M) pace (code_of M) is_pace first units statements events shown seen slots (frame f p) callers next track (stands M f p g i at is) new
+    begins_unit (step_of M) pace (code_of M) is_pace first units statements events shown seen slots (frame f p) callers next track (stands M f p g i at is) (λ none. new)
     (fetches M slots (frame f p) callers g i at is ∙ does)
 
 -- an instruction that belongs to the unit before it

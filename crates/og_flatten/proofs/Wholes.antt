@@ -16,8 +16,8 @@ use Rattle.og_ir.specs.declared.Instr.TheVariants as instr
 use Rattle.og_ir.specs.Steps.{Config, Running, Over}
 use Rattle.og_csubset.specs.Paced.{Pace, IsPace}
 use Rattle.og_flatten.specs.FlatCode.{code_of, transition_function, transition_code, first_entering, entering_place, end_place, steps_of, end_of, body_at, body_length, bodies_of, states_of, sets, region}
-use Rattle.og_flatten.proofs.Passing.{Passed, with_place}
-use Rattle.og_flatten.proofs.Tracks.{since}
+use Rattle.og_follow.specs.Passing.{Passed, with_place}
+use Rattle.og_follow.specs.Tracks.{since}
 use Rattle.og_flatten.proofs.SingleSteps.{slots_at, sets_region}
 use Rattle.og_flatten.proofs.Places.{HasAt}
 use Rattle.og_flatten.proofs.Basic.{BodyIs, StateIs}

@@ -1,0 +1,4 @@
+pub mod PacedSteps
+pub mod Passing
+pub mod Agreeing
+pub mod Tracks

@@ -1,0 +1,4 @@
+pub mod Passing
+pub mod Tracks
+pub mod Answers
+pub mod Carrying
