@@ -2,3 +2,4 @@ pub mod PacedSteps
 pub mod Passing
 pub mod Agreeing
 pub mod Tracks
+pub mod Carrying

@@ -1,9 +1,9 @@
 -- What it is that code carries out a doing of the meaning. From a place where the doing begins the code shows the same events and
 -- comes to where the outcome leads it, or all units are used up, and it has shown as much and runs on. Each unit has a statement of
 -- its own, and between the beginnings of two units no place is passed twice; so with the doing goes which places it passes.
-use Rattle.std.specs.Prelude.{◌≡◌, ℕ, zero, suc, ◌+◌, ◌≤◌, false, List, ◌++◌, ◌⊎◌}
+use Rattle.std.specs.Prelude.{◌≡◌, ℕ, zero, suc, ◌+◌, ◌≤◌, Bool, false, List, ◌++◌, ◌⊎◌, IsTrue}
 use Rattle.og_model.specs.Shown.{Event}
-use Rattle.og_model.specs.Units.{State, Outcome, Done, Out, Ran, Doing}
+use Rattle.og_model.specs.Units.{State, Outcome, Done, Out, Ran, Doing, after_events}
 use Rattle.og_ir.specs.declared.Ir.{Ir}
 use Rattle.og_ir.specs.Cells.{Cells}
 use Rattle.og_ir.specs.Steps as Steps
@@ -30,6 +30,17 @@ pub record StandsAt (frame : Frame) (callers : List Frame) (slots_are : State �
   pub slots : List Cells
   pub is : now ≡ Running slots frame callers
   pub are : slots_are s slots
+
+-- no function has returned to outside
+pub record IsRunning (now : Config) : Type 0 where
+  pub slots : List Cells
+  pub frame : Frame
+  pub callers : List Frame
+  pub is : now ≡ Running slots frame callers
+
+-- the same, with this state alone
+abbrev pub in_state : State → Standing → Standing
+in_state fixed before s now = (s ≡ fixed) × before s now
 
 -- where each outcome leads
 abbrev pub Exits : Type 0 → Type 1
@@ -75,6 +86,24 @@ pub record Ways : Type 1 where
   pub tail : Places
   pub least : ℕ
 
+-- ---- doings
+
+-- events before what is done
+abbrev pub showing_each : {A : Type 0} → List Event → Doing A → Doing A
+showing_each shown d n s = after_events shown (d n s)
+
+-- what is done depends on the state in which it begins
+abbrev pub by_state : {A : Type 0} → (State → Doing A) → Doing A
+by_state d n s = d s n s
+
+-- what is done in another state
+abbrev pub becoming : {A : Type 0} → (State → State) → Doing A → Doing A
+becoming change d n s = d n (change s)
+
+-- what is done with as much fuel as there are units
+abbrev pub by_units : {A : Type 0} → (ℕ → Doing A) → Doing A
+by_units d n s = d n n s
+
 -- ---- a run so far
 
 -- the units that were begun, the statements, the events, the places since the last unit, and where the run is
@@ -105,7 +134,7 @@ pub record Passes (code : Code) (before : Standing) (shown : List Event) (after 
       → Gone code first from shown after X s
 
 -- one step of the code
-pub record Steps (code : Code) (shown : List Event) (after : Config → Type 0) (X : Places) (now : Config) : Type 0 where
+pub record Moves (code : Code) (shown : List Event) (after : Config → Type 0) (X : Places) (now : Config) : Type 0 where
   pub slots : List Cells
   pub frame : Frame
   pub callers : List Frame
@@ -115,6 +144,24 @@ pub record Steps (code : Code) (shown : List Event) (after : Config → Type 0) 
   pub next : Config
   pub does : code.step now ≡ record { events = shown; config = next }
   pub there : after next
+
+-- ---- code that begins a unit
+
+pub record Begun (code : Code) (first : Config) (from : Point) (shown : List Event) (after : State → Config → Type 0) (X : ℕ → ℕ → Type 0) (s : State) : Type 0 where
+  pub to : Point
+  pub follows : Follows code first to
+  pub units : to.units ≡ suc from.units
+  pub events : to.events ≡ from.events ++ shown
+  pub there : after s to.now
+  pub passed : Within to.seen from.seen X
+  -- what was passed before the unit counts only where it is the first one
+  pub anew : 1 ≤ from.units → Within to.seen none_passed X
+
+-- from one standing to another the code begins a unit with its next step, shows these events and passes these places
+pub record Begins (code : Code) (before : Standing) (shown : List Event) (after : Standing) (X : Places) : Type 0 where
+  pub runs : (s : State) (now : Config) → before s now → IsRunning now
+  pub begins : (first : Config) (from : Point) (s : State) → Follows code first from → before s from.now
+      → (from.units ≡ 0 → Free from.seen X) → Begun code first from shown after X s
 
 -- ---- code that carries out a doing
 
@@ -131,7 +178,7 @@ pub record PassedBy (P : Ways) (begun taken : ℕ) (seen later : Passed) : Type 
 
 abbrev pub AtLeast : {A : Type 0} → ℕ → ℕ → Outcome A → Type 0
 AtLeast least taken (Done a) = least ≤ taken
-AtLeast least taken _ = Unit
+AtLeast least taken _ = Unit {0}
 
 -- the doing came to an outcome, and the code to where it leads
 pub record Arrives {A : Type 0} (code : Code) (first : Config) (from : Point) (n : ℕ) (r : Ran A) (after : Exits A) (P : Ways) : Type 0 where
@@ -153,10 +200,7 @@ pub record UsesUp {A : Type 0} (code : Code) (first : Config) (from : Point) (n 
   pub units : to.units ≡ from.units + n
   pub events : to.events ≡ from.events ++ r.events
   pub out : r.outcome ≡ Out
-  pub slots : List Cells
-  pub frame : Frame
-  pub callers : List Frame
-  pub runs : to.now ≡ Running slots frame callers
+  pub runs : IsRunning to.now
 
 abbrev pub Carried : {A : Type 0} → Code → Config → Point → ℕ → Ran A → Exits A → Ways → Type 0
 Carried code first from n r after P = Arrives code first from n r after P ⊎ UsesUp code first from n r
@@ -210,3 +254,34 @@ pub record Narrower (P Q : Ways) : Type 0 where
   pub near : Among P.near Q.near
   pub tail : Among P.tail Q.tail
   pub least : Q.least ≤ P.least
+
+-- ---- the same as tests
+
+-- A contract speaks of relations and places by tests: every relation is one, as far as its truth goes.
+abbrev pub Test : Type 0
+Test = State → Config → Bool
+
+abbrev pub told : Test → Standing
+told test s now = IsTrue (test s now)
+
+abbrev pub Leads : Type 0 → Type 0
+Leads A = Outcome A → Test
+
+abbrev pub led : {A : Type 0} → Leads A → Exits A
+led leads o s now = IsTrue (leads o s now)
+
+abbrev pub listed : Passed → Places
+listed places f p = IsTrue (places f p)
+
+pub record Routes : Type 0 where
+  pub head : Passed
+  pub near : Passed
+  pub tail : Passed
+  pub least : ℕ
+
+abbrev pub ways : Routes → Ways
+ways routes = record { head = listed routes.head; near = listed routes.near; tail = listed routes.tail; least = routes.least }
+
+-- code that carries out a doing with every number of units
+abbrev pub Always : {A : Type 0} → Code → Doing A → Standing → Exits A → Ways → Type 0
+Always code d before after P = (fuel : ℕ) → CarriesOut code fuel d before after P
