@@ -608,3 +608,59 @@ as_wider {A} code fuel fewer d before before' after after' P Q few begins leads 
       passed = passed_wider P Q from.units one.taken from.seen one.to.seen narrower one.passed;
     })
     wider first from n r (inr used) = inr used
+
+-- ---- straight code after a doing
+
+-- places apart from all that was passed are free after it
+free_after : (X : Places) (P : Ways) (u t : ℕ) (seen later : Passed) → Apart X P.head → Apart X P.near → Apart X P.tail → Fits (before_places P X) u seen → PassedBy P u t seen later → Free later X
+free_after X P u t seen later head near tail fits passed = by_number u t refl refl
+  where
+    two : Apart X (either P.head P.near)
+    two f p x (inl y) = head f p x y
+    two f p x (inr y) = near f p x y
+
+    by_number : (b k : ℕ) → u ≡ b → t ≡ k → Free later X
+    by_number b zero u_is none = free_later seen later X P.head (λ f p x. fits.head f p (inr x)) (passed.none none) head
+    by_number zero (suc zero) u_is one = free_later seen later X (either P.head P.near) (λ f p x. fits.head f p (inr x)) (passed.one u_is one) two
+    by_number zero (suc (suc k)) u_is more = free_later none_passed later X P.tail (free_none X) (passed.more (omega (arith, more)) (omega (arith, more))) tail
+    by_number (suc b) (suc k) u_is more = free_later none_passed later X P.tail (free_none X) (passed.more (omega (arith, more)) (omega (arith, more, u_is))) tail
+
+passed_after : (X : Places) (P : Ways) (u t : ℕ) (seen mid later : Passed) → PassedBy P u t seen mid → Within later mid X → PassedBy (before_places P X) u t seen later
+passed_after X P u t seen mid later passed within = record {
+  none = λ e. within_then seen mid later P.head X (passed.none e) within;
+  one = λ b e. within_more later seen (either (either P.head P.near) X) (either (either P.head X) (either P.near X)) among (within_then seen mid later (either P.head P.near) X (passed.one b e) within);
+  more = λ some e. within_then none_passed mid later P.tail X (passed.more some e) within;
+}
+  where
+    among : Among (either (either P.head P.near) X) (either (either P.head X) (either P.near X))
+    among f p (inl (inl x)) = inl (inl x)
+    among f p (inl (inr y)) = inr (inl y)
+    among f p (inr z) = inl (inr z)
+
+-- whatever the outcome, code goes on from where it led
+pub then_passes : {A : Type 0} (code : Code) (fuel : ℕ) (d : Doing A) (before : Standing) (mid after : Exits A) (X : Places) (P : Ways) → CarriesOut code fuel d before mid P → ((o : Outcome A) → Passes code (mid o) [] (after o) X)
+    → Apart X P.head → Apart X P.near → Apart X P.tail → CarriesOut code fuel d before after (before_places P X)
+then_passes {A} code fuel d before mid after X P carries passes head near tail = record {
+  carries = λ first from n s le follows at fits.
+    choose first from n (d n s) fits (carries.carries first from n s le follows at (record {
+      head = λ f p x. fits.head f p (inl x);
+      near = λ none f p x. fits.near none f p (inl x);
+    }));
+}
+  where
+    choose : (first : Config) (from : Point) (n : ℕ) (r : Ran A) → Fits (before_places P X) from.units from.seen → Carried code first from n r mid P → Carried code first from n r after (before_places P X)
+    choose first from n r fits (inl one) =
+        let b = (passes r.outcome).passes first one.to r.state one.follows one.there (free_after X P from.units one.taken from.seen one.to.seen head near tail fits one.passed) in
+        inl (record {
+          to = b.to;
+          follows = b.follows;
+          taken = one.taken;
+          units = b.units ∙ one.units;
+          counts = one.counts;
+          least = one.least;
+          events = b.events ∙ append-nil one.to.events ∙ one.events;
+          ended = one.ended;
+          there = b.there;
+          passed = passed_after X P from.units one.taken from.seen one.to.seen b.to.seen one.passed b.passed;
+        })
+    choose first from n r fits (inr used) = inr used

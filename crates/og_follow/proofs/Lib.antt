@@ -3,3 +3,4 @@ pub mod Passing
 pub mod Agreeing
 pub mod Tracks
 pub mod Carrying
+pub mod Answering

@@ -2,13 +2,17 @@
 -- comes to where the outcome leads it, or all units are used up, and it has shown as much and runs on. Each unit has a statement of
 -- its own, and between the beginnings of two units no place is passed twice; so with the doing goes which places it passes.
 use Rattle.std.specs.Prelude.{◌≡◌, ℕ, zero, suc, ◌+◌, ◌≤◌, Bool, false, List, ◌++◌, ◌⊎◌, IsTrue}
+use Rattle.og_model.specs.Shown as Shows
 use Rattle.og_model.specs.Shown.{Event}
-use Rattle.og_model.specs.Units.{State, Outcome, Done, Out, Ran, Doing, after_events}
+use Rattle.og_model.specs.Units.{State, Outcome, Done, Stop, Fault, Out, Ran, Doing, after_events}
+use Rattle.og_model.specs.Configuration.{Active}
 use Rattle.og_ir.specs.declared.Ir.{Ir}
 use Rattle.og_ir.specs.Cells.{Cells}
 use Rattle.og_ir.specs.Steps as Steps
-use Rattle.og_ir.specs.Steps.{Frame, Config, Running}
+use Rattle.og_ir.specs.Steps.{Frame, Config, Running, Over}
 use Rattle.og_csubset.specs.Paced.{Pace, IsPace}
+use Rattle.og_csubset.specs.Run.{Machine}
+use Rattle.og_follow.specs.Answers.{AtRest, AtHalt}
 use Rattle.og_follow.specs.Passing.{Passed, none_passed}
 use Rattle.og_follow.specs.Tracks.{Track, Stands}
 
@@ -285,3 +289,17 @@ ways routes = record { head = listed routes.head; near = listed routes.near; tai
 -- code that carries out a doing with every number of units
 abbrev pub Always : {A : Type 0} → Code → Doing A → Standing → Exits A → Ways → Type 0
 Always code d before after P = (fuel : ℕ) → CarriesOut code fuel d before after P
+
+-- ---- the start, or a stimulus
+
+-- the code of a machine at a pace
+abbrev pub code_at : Machine → (pace : Pace) → IsPace pace → Ir → Code
+code_at machine pace is_pace ir = record { step = machine.step; pace = pace; is_pace = is_pace; ir = ir }
+
+-- the code has returned to outside, with slots of the process at rest, stopped or after a fault
+abbrev pub Returned : AtRest → AtHalt → Machine → Exits Active
+Returned Rests Halts machine (Done a) s now = (slots : List Cells) × (now ≡ Over slots) × Rests a s slots
+Returned Rests Halts machine Stop s now = (slots : List Cells) × (now ≡ Over slots) × Halts s slots
+Returned Rests Halts machine (Fault kind place) s now =
+    (slots : List Cells) × (now ≡ Over slots) × (machine.ending slots ≡ Shows.Fault kind place s.store.variables s.timers)
+Returned Rests Halts machine Out s now = ⊥
