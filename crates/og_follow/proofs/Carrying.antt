@@ -10,7 +10,7 @@ use Rattle.og_model.specs.Units.{State, Outcome, Done, Stop, Fault, Out, Ran, Do
 use Rattle.og_ir.specs.Steps.{Config, Running}
 use Rattle.og_follow.specs.Passing.{Passed, none_passed, with_place}
 use Rattle.og_follow.specs.Tracks.{Track, since}
-use Rattle.og_follow.specs.Carrying.{Code, Standing, IsRunning, in_state, Exits, Places, nowhere, either, where_so, Apart, Among, Free, Within, Ways, showing_each, by_state, becoming, by_units, Point, Follows, Gone, Passes, Moves, Begun, Begins, Fits, PassedBy, AtLeast, Arrives, UsesUp, Carried, CarriesOut, no_places, behind, behind_unit, before_places, one_then, CanFollow, Narrower}
+use Rattle.og_follow.specs.Carrying.{Code, Standing, IsRunning, in_state, Exits, EndsAlike, Places, nowhere, either, where_so, Apart, Among, Free, Within, Ways, showing_each, by_state, becoming, by_units, Point, Follows, Gone, Passes, Moves, Begun, Begins, Fits, PassedBy, AtLeast, Arrives, UsesUp, Carried, CarriesOut, no_places, behind, behind_unit, before_places, one_then, CanFollow, Narrower}
 use Rattle.og_follow.proofs.Passing.{elsewhere, not_there}
 use Rattle.og_follow.proofs.Tracks.{goes_on, begins_unit}
 
@@ -507,23 +507,23 @@ ended_first code first from n r mid after P Q o one least ended there = record {
 
 -- how the outcome of the first one leads on
 goes_by : {A B : Type 0} (code : Code) (fuel : ℕ) (next : A → Doing B) (mid : Exits A) (after : Exits B) (P Q : Ways) → ((a : A) → CarriesOut code fuel (next a) (mid (Done a)) after Q)
-    → ((s : State) (now : Config) → mid Stop s now → after Stop s now) → ((kind : FaultKind) (place : Place) (s : State) (now : Config) → mid (Fault kind place) s now → after (Fault kind place) s now) → CanFollow P Q
+    → EndsAlike mid after → CanFollow P Q
     → (first : Config) (from : Point) (n : ℕ) (r : Ran A) → n ≤ fuel → Fits (one_then P Q) from.units from.seen → (o : Outcome A) → r.outcome ≡ o → Carried code first from n r mid P
     → Carried code first from n (go_on o r.events r.left r.state next) after (one_then P Q)
-goes_by code fuel next mid after P Q nexts stops faults can first from n r le fits (Done a) e (inl one) =
+goes_by code fuel next mid after P Q nexts alike can first from n r le fits (Done a) e (inl one) =
     let least = at_least_is P.least one.taken r.outcome a e one.least in
     after_first code first from n r a (next a r.left r.state) mid after P Q one least
     ((nexts a).carries first one.to r.left r.state (fewer_left one.taken r.left n fuel one.counts le) one.follows (subst (λ o. mid o r.state one.to.now) e one.there)
     (fits_next P Q from.units one.taken one.to.units from.seen one.to.seen can one.units least fits one.passed))
-goes_by code fuel next mid after P Q nexts stops faults can first from n r le fits Stop e (inl one) =
-    inl (ended_first code first from n r mid after P Q Stop one tt (λ x. false≢true (ap is_out x)) (stops r.state one.to.now (subst (λ o. mid o r.state one.to.now) e one.there)))
-goes_by code fuel next mid after P Q nexts stops faults can first from n r le fits (Fault kind place) e (inl one) =
-    inl (ended_first code first from n r mid after P Q (Fault kind place) one tt (λ x. false≢true (ap is_out x)) (faults kind place r.state one.to.now (subst (λ o. mid o r.state one.to.now) e one.there)))
-goes_by code fuel next mid after P Q nexts stops faults can first from n r le fits Out e (inl one) = absurd (one.ended e)
-goes_by code fuel next mid after P Q nexts stops faults can first from n r le fits (Done a) e (inr used) = absurd (false≢true (ap is_out (sym e ∙ used.out)))
-goes_by code fuel next mid after P Q nexts stops faults can first from n r le fits Stop e (inr used) = absurd (false≢true (ap is_out (sym e ∙ used.out)))
-goes_by code fuel next mid after P Q nexts stops faults can first from n r le fits (Fault kind place) e (inr used) = absurd (false≢true (ap is_out (sym e ∙ used.out)))
-goes_by code fuel next mid after P Q nexts stops faults can first from n r le fits Out e (inr used) = inr (record {
+goes_by code fuel next mid after P Q nexts alike can first from n r le fits Stop e (inl one) =
+    inl (ended_first code first from n r mid after P Q Stop one tt (λ x. false≢true (ap is_out x)) (alike.0 r.state one.to.now (subst (λ o. mid o r.state one.to.now) e one.there)))
+goes_by code fuel next mid after P Q nexts alike can first from n r le fits (Fault kind place) e (inl one) =
+    inl (ended_first code first from n r mid after P Q (Fault kind place) one tt (λ x. false≢true (ap is_out x)) (alike.1 kind place r.state one.to.now (subst (λ o. mid o r.state one.to.now) e one.there)))
+goes_by code fuel next mid after P Q nexts alike can first from n r le fits Out e (inl one) = absurd (one.ended e)
+goes_by code fuel next mid after P Q nexts alike can first from n r le fits (Done a) e (inr used) = absurd (false≢true (ap is_out (sym e ∙ used.out)))
+goes_by code fuel next mid after P Q nexts alike can first from n r le fits Stop e (inr used) = absurd (false≢true (ap is_out (sym e ∙ used.out)))
+goes_by code fuel next mid after P Q nexts alike can first from n r le fits (Fault kind place) e (inr used) = absurd (false≢true (ap is_out (sym e ∙ used.out)))
+goes_by code fuel next mid after P Q nexts alike can first from n r le fits Out e (inr used) = inr (record {
   to = used.to;
   follows = used.follows;
   units = used.units;
@@ -533,11 +533,11 @@ goes_by code fuel next mid after P Q nexts stops faults can first from n r le fi
 })
 
 pub one_then_other : {A B : Type 0} (code : Code) (fuel : ℕ) (d : Doing A) (next : A → Doing B) (before : Standing) (mid : Exits A) (after : Exits B) (P Q : Ways) → CarriesOut code fuel d before mid P → ((a : A) → CarriesOut code fuel (next a) (mid (Done a)) after Q)
-    → ((s : State) (now : Config) → mid Stop s now → after Stop s now) → ((kind : FaultKind) (place : Place) (s : State) (now : Config) → mid (Fault kind place) s now → after (Fault kind place) s now) → CanFollow P Q
+    → EndsAlike mid after → CanFollow P Q
     → CarriesOut code fuel (then_do d next) before after (one_then P Q)
-one_then_other code fuel d next before mid after P Q one nexts stops faults can = record {
+one_then_other code fuel d next before mid after P Q one nexts alike can = record {
   carries = λ first from n s le follows at fits.
-    goes_by code fuel next mid after P Q nexts stops faults can first from n (d n s) le fits (d n s).outcome refl
+    goes_by code fuel next mid after P Q nexts alike can first from n (d n s) le fits (d n s).outcome refl
     (one.carries first from n s le follows at (record {
       head = λ f p x. fits.head f p (inl x);
       near = λ none f p x. fits.near none f p (inl x);
@@ -664,3 +664,11 @@ then_passes {A} code fuel d before mid after X P carries passes head near tail =
           passed = passed_after X P from.units one.taken from.seen one.to.seen b.to.seen one.passed b.passed;
         })
     choose first from n r fits (inr used) = inr used
+
+-- nothing is done where there are no units
+pub spends_nothing : {A : Type 0} (code : Code) (d : Doing A) (before : Standing) (after : Exits A) (P : Ways) → ((s : State) (now : Config) → before s now → IsRunning now) → CarriesOut code 0 (spend d) before after P
+spends_nothing {A} code d before after P runs = record { carries = carries }
+  where
+    carries : (first : Config) (from : Point) (n : ℕ) (s : State) → n ≤ 0 → Follows code first from → before s from.now → Fits P from.units from.seen → Carried code first from n (spend d n s) after P
+    carries first from zero s le follows at fits = (runs_out_at_once {A = A} code before after P runs).carries first from 0 s le follows at fits
+    carries first from (suc n) s le follows at fits = absurd (omega (arith, le))

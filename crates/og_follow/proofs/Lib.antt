@@ -4,3 +4,6 @@ pub mod Agreeing
 pub mod Tracks
 pub mod Carrying
 pub mod Answering
+pub mod Calls
+pub mod Partitions
+pub mod Settling

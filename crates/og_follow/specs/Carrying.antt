@@ -2,6 +2,8 @@
 -- comes to where the outcome leads it, or all units are used up, and it has shown as much and runs on. Each unit has a statement of
 -- its own, and between the beginnings of two units no place is passed twice; so with the doing goes which places it passes.
 use Rattle.std.specs.Prelude.{◌≡◌, ℕ, zero, suc, ◌+◌, ◌≤◌, Bool, false, List, ◌++◌, ◌⊎◌, IsTrue}
+use Rattle.og_base.specs.declared.Place.{Place}
+use Rattle.og_model.specs.declared.FaultKind.{FaultKind}
 use Rattle.og_model.specs.Shown as Shows
 use Rattle.og_model.specs.Shown.{Event}
 use Rattle.og_model.specs.Units.{State, Outcome, Done, Stop, Fault, Out, Ran, Doing, after_events}
@@ -49,6 +51,12 @@ in_state fixed before s now = (s ≡ fixed) × before s now
 -- where each outcome leads
 abbrev pub Exits : Type 0 → Type 1
 Exits A = Outcome A → Standing
+
+-- where one leads at a stop and at a fault, the other does
+abbrev pub EndsAlike : {A B : Type 0} → Exits A → Exits B → Type 0
+EndsAlike mid after =
+    ((s : State) (now : Config) → mid Stop s now → after Stop s now)
+    × ((kind : FaultKind) (place : Place) (s : State) (now : Config) → mid (Fault kind place) s now → after (Fault kind place) s now)
 
 -- ---- places
 

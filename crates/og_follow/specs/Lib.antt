@@ -2,3 +2,4 @@ pub mod Passing
 pub mod Tracks
 pub mod Answers
 pub mod Carrying
+pub mod Trials
