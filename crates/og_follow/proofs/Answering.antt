@@ -57,6 +57,6 @@ module _ (Rests : AtRest) (Halts : AtHalt) (machine : Machine) (pace : Pace) (is
       → Answers Rests Halts machine pace (paced_size pace ir) config n (d n s)
   carried_is_answered d n s before P at carries =
       answers n (d n s) P (carries.carries config at_first n s (omega (arith)) (begins machine.step pace ir config) at (record {
-          head = λ f p x. refl;
-          near = λ none f p x. refl;
+        head = λ f p x. refl;
+        near = λ none f p x. refl;
       }))

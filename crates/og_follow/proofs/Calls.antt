@@ -68,8 +68,8 @@ module _ (code : Code) (fuel : ℕ) (go : Going) (p : Proc) (ps : List Passed) (
   pub call_carried : CarriesOut code fuel (called_with go (Some p) ps) before after P
   call_carried = record {
     carries = λ first from n s le follows at fits.
-      subst (λ j. Carried code first from n (then_do (becoming (in_call p ps) (going_at go (setting_of p j ps) (start_of p.bodies))) (returned j) n s) after P) (sym (is.depth s from.now at))
-      (whole.carries first from n s le follows at fits);
+        subst (λ j. Carried code first from n (then_do (becoming (in_call p ps) (going_at go (setting_of p j ps) (start_of p.bodies))) (returned j) n s) after P) (sym (is.depth s from.now at))
+        (whole.carries first from n s le follows at fits);
   }
 
 -- the action: its arguments, the call, and what follows it

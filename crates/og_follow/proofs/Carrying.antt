@@ -103,11 +103,11 @@ step_passes code before shown after X steps = record { passes = passes }
         let here = subst (λ c. Track code.step code.pace code.ir first from.units from.statements from.events from.seen c) st.is follows in
         record {
           to = record {
-              units = from.units;
-              statements = from.statements + code.pace st.frame.function st.frame.place;
-              events = from.events ++ shown;
-              seen = with_place from.seen st.frame.function st.frame.place;
-              now = st.next;
+            units = from.units;
+            statements = from.statements + code.pace st.frame.function st.frame.place;
+            events = from.events ++ shown;
+            seen = with_place from.seen st.frame.function st.frame.place;
+            now = st.next;
           };
           follows = goes_on code.step code.pace code.ir code.is_pace first from.units from.statements from.events shown from.seen st.slots st.frame st.callers st.next here st.stands (free st.frame.function st.frame.place st.among) (ap code.step (sym st.is) ∙ st.does);
           units = refl;
@@ -146,11 +146,11 @@ step_begins code before shown after X steps = record { runs = runs; begins = beg
         let here = subst (λ c. Track code.step code.pace code.ir first from.units from.statements from.events from.seen c) st.is follows in
         record {
           to = record {
-              units = suc from.units;
-              statements = from.statements + code.pace st.frame.function st.frame.place;
-              events = from.events ++ shown;
-              seen = since from.units from.seen st.frame.function st.frame.place;
-              now = st.next;
+            units = suc from.units;
+            statements = from.statements + code.pace st.frame.function st.frame.place;
+            events = from.events ++ shown;
+            seen = since from.units from.seen st.frame.function st.frame.place;
+            now = st.next;
           };
           follows = begins_unit code.step code.pace code.ir code.is_pace first from.units from.statements from.events shown from.seen st.slots st.frame st.callers st.next here st.stands (λ none. free none st.frame.function st.frame.place st.among) (ap code.step (sym st.is) ∙ st.does);
           units = refl;
@@ -267,12 +267,12 @@ after_passing code first from shown mid X s n r after P a (inr b) = inr (record 
 pub passes_then : {A : Type 0} (code : Code) (fuel : ℕ) (d : Doing A) (before : Standing) (shown : List Event) (mid : Standing) (after : Exits A) (X : Places) (P : Ways) → Passes code before shown mid X → CarriesOut code fuel d mid after P → Apart P.head X → Apart P.near X → CarriesOut code fuel (showing_each shown d) before after (behind X P)
 passes_then code fuel d before shown mid after X P passes carries apart apart_near = record {
   carries = λ first from n s le follows at fits.
-    let a = passes.passes first from s follows at (λ f p x. fits.head f p (inl x)) in
-    after_passing code first from shown mid X s n (d n s) after P a
-    (carries.carries first a.to n s le a.follows a.there (record {
-      head = free_later from.seen a.to.seen P.head X (λ f p x. fits.head f p (inr x)) a.passed apart;
-      near = λ none. free_later from.seen a.to.seen P.near X (fits.near (sym a.units ∙ none)) a.passed apart_near;
-    }));
+      let a = passes.passes first from s follows at (λ f p x. fits.head f p (inl x)) in
+      after_passing code first from shown mid X s n (d n s) after P a
+      (carries.carries first a.to n s le a.follows a.there (record {
+        head = free_later from.seen a.to.seen P.head X (λ f p x. fits.head f p (inr x)) a.passed apart;
+        near = λ none. free_later from.seen a.to.seen P.near X (fits.near (sym a.units ∙ none)) a.passed apart_near;
+      }));
 }
 
 -- ---- a unit
@@ -537,11 +537,11 @@ pub one_then_other : {A B : Type 0} (code : Code) (fuel : ℕ) (d : Doing A) (ne
     → CarriesOut code fuel (then_do d next) before after (one_then P Q)
 one_then_other code fuel d next before mid after P Q one nexts alike can = record {
   carries = λ first from n s le follows at fits.
-    goes_by code fuel next mid after P Q nexts alike can first from n (d n s) le fits (d n s).outcome refl
-    (one.carries first from n s le follows at (record {
-      head = λ f p x. fits.head f p (inl x);
-      near = λ none f p x. fits.near none f p (inl x);
-    }));
+      goes_by code fuel next mid after P Q nexts alike can first from n (d n s) le fits (d n s).outcome refl
+      (one.carries first from n s le follows at (record {
+        head = λ f p x. fits.head f p (inl x);
+        near = λ none f p x. fits.near none f p (inl x);
+      }));
 }
 
 -- ---- a fault, and the state
@@ -589,9 +589,9 @@ passed_wider P Q u t seen later narrower passed = record {
 pub as_wider : {A : Type 0} (code : Code) (fuel fewer : ℕ) (d : Doing A) (before before' : Standing) (after after' : Exits A) (P Q : Ways) → fewer ≤ fuel → ((s : State) (now : Config) → before' s now → before s now) → ((o : Outcome A) (s : State) (now : Config) → after o s now → after' o s now) → Narrower P Q → CarriesOut code fuel d before after P → CarriesOut code fewer d before' after' Q
 as_wider {A} code fuel fewer d before before' after after' P Q few begins leads narrower carries = record {
   carries = λ first from n s le follows at fits. wider first from n (d n s) (carries.carries first from n s (omega (arith, le, few)) follows (begins s from.now at) (record {
-      head = λ f p x. fits.head f p (narrower.head f p x);
-      near = λ none f p x. fits.near none f p (narrower.near f p x);
-    }));
+    head = λ f p x. fits.head f p (narrower.head f p x);
+    near = λ none f p x. fits.near none f p (narrower.near f p x);
+  }));
 }
   where
     wider : (first : Config) (from : Point) (n : ℕ) (r : Ran A) → Carried code first from n r after P → Carried code first from n r after' Q
@@ -642,10 +642,10 @@ pub then_passes : {A : Type 0} (code : Code) (fuel : ℕ) (d : Doing A) (before 
     → Apart X P.head → Apart X P.near → Apart X P.tail → CarriesOut code fuel d before after (before_places P X)
 then_passes {A} code fuel d before mid after X P carries passes head near tail = record {
   carries = λ first from n s le follows at fits.
-    choose first from n (d n s) fits (carries.carries first from n s le follows at (record {
-      head = λ f p x. fits.head f p (inl x);
-      near = λ none f p x. fits.near none f p (inl x);
-    }));
+      choose first from n (d n s) fits (carries.carries first from n s le follows at (record {
+        head = λ f p x. fits.head f p (inl x);
+        near = λ none f p x. fits.near none f p (inl x);
+      }));
 }
   where
     choose : (first : Config) (from : Point) (n : ℕ) (r : Ran A) → Fits (before_places P X) from.units from.seen → Carried code first from n r mid P → Carried code first from n r after (before_places P X)

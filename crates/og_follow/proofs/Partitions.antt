@@ -30,12 +30,12 @@ enters_partitions code fuel M enter q qs before hooked arrived parted others aft
     let parts : Arrival → Doing Parts = λ x. then_do (in_partition M (out-Partition q).exit x) last in
     one_then_other code fuel (spend (hook M (out-Partition q).entry)) (λ done. then_do (started M enter (out-Partition q).inner None) parts) before hooked after H (one_then S (one_then R T)) is.entry
     (λ done. one_then_other code fuel (started M enter (out-Partition q).inner None) parts (hooked (Done tt)) arrived after S (one_then R T) is.start
-      (λ x. one_then_other code fuel (in_partition M (out-Partition q).exit x) last (arrived (Done x)) parted after R T (is.part x)
-        (λ a. as_wider code fuel fuel (last a) (parted (Done a)) (parted (Done a)) after after (one_then T no_places) T (omega (arith)) (λ s now at. at) (λ o s now at. at) (same_way T)
-          (one_then_other code fuel (enter_parts M enter qs) (λ ps. gives (add_part a ps)) (parted (Done a)) (others a) after T no_places (is.more a)
-          (adds code fuel a (others a) after (is.done a)) (is.more_ends a) (then_nothing T)))
-        is.part_ends is.third)
-      is.start_ends is.second)
+    (λ x. one_then_other code fuel (in_partition M (out-Partition q).exit x) last (arrived (Done x)) parted after R T (is.part x)
+    (λ a. as_wider code fuel fuel (last a) (parted (Done a)) (parted (Done a)) after after (one_then T no_places) T (omega (arith)) (λ s now at. at) (λ o s now at. at) (same_way T)
+    (one_then_other code fuel (enter_parts M enter qs) (λ ps. gives (add_part a ps)) (parted (Done a)) (others a) after T no_places (is.more a)
+    (adds code fuel a (others a) after (is.done a)) (is.more_ends a) (then_nothing T)))
+    is.part_ends is.third)
+    is.start_ends is.second)
     is.entry_ends is.first
 
 -- the last one fails
@@ -48,7 +48,7 @@ last_fails code fuel M enter q before hooked failed after H S is =
     let start : ⊤ → Doing Parts = λ done. then_do (started M enter (out-Partition q).inner None) parts in
     one_then_other code fuel (spend (hook M (out-Partition q).entry)) start before hooked after H S is.entry
     (λ done. as_wider code fuel fuel (start tt) (hooked (Done tt)) (hooked (Done tt)) after after (one_then S no_places) S (omega (arith)) (λ s now at. at) (λ o s now at. at) (same_way S)
-      (one_then_other code fuel (started M enter (out-Partition q).inner None) parts (hooked (Done tt)) failed after S no_places is.start
-      (λ x. never_begins code fuel (parts x) (failed (Done x)) after no_places (is.never x))
-      is.start_ends (then_nothing S)))
+    (one_then_other code fuel (started M enter (out-Partition q).inner None) parts (hooked (Done tt)) failed after S no_places is.start
+    (λ x. never_begins code fuel (parts x) (failed (Done x)) after no_places (is.never x))
+    is.start_ends (then_nothing S)))
     is.entry_ends is.first

@@ -106,8 +106,8 @@ module _ (code : Code) (M : Model) (settling : Active → Standing) (tests : Act
       let goes_on : State → Doing Active = λ s. or_fault x.place (eval no_frame s.store x.condition) (λ v. when (truth_of v) (then_do (fire M x.address x.body a) again) (first_of M again a xs)) in
       by_state_of code (suc fuel) (λ s. spend (goes_on s)) (tests a (x ∷ xs)) after (testing T X F)
       (λ s. as_wider code (suc fuel) (suc fuel) (spend (goes_on s)) (in_state s (tests a (x ∷ xs))) (in_state s (tests a (x ∷ xs))) after after (behind_unit X tested_ways) (testing T X F) (omega (arith)) (λ t now at. at) (λ o t now at. at) tested_narrower
-        (begins_then code fuel (goes_on s) (in_state s (tests a (x ∷ xs))) [] (where_tested x (firing a x) (tests a xs) after (eval no_frame s.store x.condition)) after X tested_ways (is.test a x xs s)
-        (tested_by fuel again goes a x xs next (eval no_frame s.store x.condition)) is.head_apart))
+      (begins_then code fuel (goes_on s) (in_state s (tests a (x ∷ xs))) [] (where_tested x (firing a x) (tests a xs) after (eval no_frame s.store x.condition)) after X tested_ways (is.test a x xs s)
+      (tested_by fuel again goes a x xs next (eval no_frame s.store x.condition)) is.head_apart))
     where
       same : Narrower (testing T X F) (testing T X F)
       same = record { head = λ f p x. x; near = λ f p x. x; tail = λ f p x. x; least = omega (arith) }

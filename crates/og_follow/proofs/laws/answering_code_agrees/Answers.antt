@@ -1,6 +1,6 @@
 use Rattle.std.specs.Prelude.{IsTrue}
 use Rattle.og_follow.proofs.Agreeing.{same_runs}
-use Rattle.og_follow.proofs.answering_code_agrees.Goals as goal
+use Rattle.og_follow.proofs.laws.answering_code_agrees.Goals as goal
 
 pub returns : goal.returns
 returns c = λ model machine pace size first rests halts simulates.
