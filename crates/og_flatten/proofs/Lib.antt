@@ -13,7 +13,6 @@ pub mod Places
 pub mod Basic
 pub mod Meaning
 pub mod Transitions
-pub mod Wholes
 pub mod Interfaces
 pub mod Simulation
 pub mod Behaviour

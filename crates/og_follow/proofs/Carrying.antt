@@ -10,7 +10,7 @@ use Rattle.og_model.specs.Units.{State, Outcome, Done, Stop, Fault, Out, Ran, Do
 use Rattle.og_ir.specs.Steps.{Config, Running}
 use Rattle.og_follow.specs.Passing.{Passed, none_passed, with_place}
 use Rattle.og_follow.specs.Tracks.{Track, since}
-use Rattle.og_follow.specs.Carrying.{Code, Standing, IsRunning, in_state, Exits, EndsAlike, Places, nowhere, either, where_so, Apart, Among, Free, Within, Ways, showing_each, by_state, becoming, by_units, Point, Follows, Gone, Passes, Moves, Begun, Begins, Fits, PassedBy, AtLeast, Arrives, UsesUp, Carried, CarriesOut, no_places, behind, behind_unit, before_places, one_then, CanFollow, Narrower}
+use Rattle.og_follow.specs.Carrying.{Code, Standing, IsRunning, in_state, Exits, EndsAlike, only, Places, nowhere, either, where_so, Apart, Among, Free, Within, Ways, showing_each, by_state, becoming, by_units, Point, Follows, Gone, Passes, Moves, Begun, Begins, Fits, PassedBy, AtLeast, Arrives, UsesUp, Carried, CarriesOut, no_places, behind, behind_unit, before_places, one_then, CanFollow, Narrower}
 use Rattle.og_follow.proofs.Passing.{elsewhere, not_there}
 use Rattle.og_follow.proofs.Tracks.{goes_on, begins_unit}
 
@@ -672,3 +672,48 @@ spends_nothing {A} code d before after P runs = record { carries = carries }
     carries : (first : Config) (from : Point) (n : ℕ) (s : State) → n ≤ 0 → Follows code first from → before s from.now → Fits P from.units from.seen → Carried code first from n (spend d n s) after P
     carries first from zero s le follows at fits = (runs_out_at_once {A = A} code before after P runs).carries first from 0 s le follows at fits
     carries first from (suc n) s le follows at fits = absurd (omega (arith, le))
+
+-- ---- where one outcome alone leads on
+
+abbrev result_of : {A : Type 0} → A → Outcome A → A
+result_of other (Done a) = a
+result_of other _ = other
+
+-- the next doing is that of the one result
+pub one_result : {A B : Type 0} (code : Code) (fuel : ℕ) (next : A → Doing B) (a : A) (standing : Standing) (after : Exits B) (P : Ways) → CarriesOut code fuel (next a) standing after P → (b : A) → CarriesOut code fuel (next b) (only (Done a) standing (Done b)) after P
+one_result code fuel next a standing after P carries b = record {
+  carries = λ first from n s le follows at fits.
+    subst (λ c. Carried code first from n (next c n s) after P) (sym (ap (result_of a) at.0)) (carries.carries first from n s le follows at.1 fits);
+}
+
+pub one_result_ends : {A B : Type 0} (a : A) (standing : Standing) (after : Exits B) → EndsAlike (only (Done a) standing) after
+one_result_ends {A} a standing after = ((λ s now at. absurd (not_done at.0)), (λ kind place s now at. absurd (not_done_fault kind place at.0)))
+  where
+    is_done : Outcome A → Bool
+    is_done (Done b) = true
+    is_done _ = false
+
+    not_done : Stop ≡ Done a → ⊥
+    not_done e = false≢true (ap is_done e)
+
+    not_done_fault : (kind : FaultKind) (place : Place) → Fault kind place ≡ Done a → ⊥
+    not_done_fault kind place e = false≢true (ap is_done e)
+
+-- straight code from there
+pub only_passes : {A : Type 0} (code : Code) (there : Outcome A) (mid after : Standing) (X : Places) → Passes code mid [] after X → (o : Outcome A) → Passes code (only there mid o) [] (only there after o) X
+only_passes code there mid after X passes o = record {
+  passes = λ first from s follows at free.
+    let a = passes.passes first from s follows at.1 free in
+    record { to = a.to; follows = a.follows; units = a.units; events = a.events; there = (at.0, a.there); passed = a.passed };
+}
+
+-- more places, and other standings
+pub passes_wider : (code : Code) (before before' : Standing) (shown : List Event) (after after' : Standing) (X Y : Places) → ((s : State) (now : Config) → before' s now → before s now) → ((s : State) (now : Config) → after s now → after' s now) → Among X Y → Passes code before shown after X → Passes code before' shown after' Y
+passes_wider code before before' shown after after' X Y begins leads among passes = record {
+  passes = λ first from s follows at free.
+    let a = passes.passes first from s follows (begins s from.now at) (λ f p x. free f p (among f p x)) in
+    record { to = a.to; follows = a.follows; units = a.units; events = a.events; there = leads s a.to.now a.there; passed = within_more a.to.seen from.seen X Y among a.passed };
+}
+
+pub same_ways : (P : Ways) → Narrower P P
+same_ways P = record { head = λ f p x. x; near = λ f p x. x; tail = λ f p x. x; least = omega (arith) }

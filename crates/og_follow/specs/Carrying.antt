@@ -58,6 +58,10 @@ EndsAlike mid after =
     ((s : State) (now : Config) → mid Stop s now → after Stop s now)
     × ((kind : FaultKind) (place : Place) (s : State) (now : Config) → mid (Fault kind place) s now → after (Fault kind place) s now)
 
+-- one outcome alone leads anywhere
+abbrev pub only : {A : Type 0} → Outcome A → Standing → Exits A
+only there standing o s now = (o ≡ there) × standing s now
+
 -- ---- places
 
 abbrev pub Places : Type 1
