@@ -11,16 +11,16 @@ use Rattle.og_model.specs.declared.Model.{Model}
 use Rattle.og_model.specs.declared.FaultKind.{FaultKind}
 use Rattle.og_model.specs.Shown as Shows
 use Rattle.og_model.specs.Shown.{Event, End, Shown, Stimulus, has_past, has_stuck, IsFront, Begins}
-use Rattle.og_model.specs.Units.{State, Outcome, Done, Stop, Fault, Out, Ran}
+use Rattle.og_model.specs.Units.{State, Outcome, Done, Stop, Fault, Out}
 use Rattle.og_model.specs.Configuration.{Active, paths_of}
 use Rattle.og_model.specs.Run.{first_state, start, step, end_of, shown_stopped, follow, sdl}
 use Rattle.og_ir.specs.Cells.{Cells}
 use Rattle.og_ir.specs.Steps as Steps
 use Rattle.og_ir.specs.Steps.{Frame, Config, Running, Over, Broken}
 use Rattle.og_csubset.specs.Agreement.{is_stimulus, AreStimuli, SameRuns}
-use Rattle.og_csubset.specs.Paced.{Pace, IsPace, exec_paced, paced_runs}
+use Rattle.og_csubset.specs.Paced.{Pace, paced_runs}
 use Rattle.og_csubset.specs.Run.{Machine, goes_on, shown_by, shown_of, all_stimuli}
-use Rattle.og_follow.specs.Answers.{Stays, after, Ended, RunsOn, AtRest, AtHalt, AnswersBy, Answers, StaysHalted, Simulates}
+use Rattle.og_follow.specs.Answers.{Stays, after, Ended, RunsOn, AtRest, AtHalt, AnswersBy, Simulates}
 use Rattle.og_follow.proofs.PacedSteps.{Later, goes_later}
 use Rattle.og_names.proofs.Truths.{both_first as left_of, both_second as right_of}
 

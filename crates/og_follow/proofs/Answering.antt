@@ -1,17 +1,16 @@
 -- Where code carries out the start, or a stimulus, from its call to its return, it answers it.
-use Rattle.std.proofs.Common.{◌≡◌, ℕ, ◌+◌, ◌≤◌, List, [], ◌++◌, ◌⊎◌, inl, inr, refl, sym, ap, subst, ◌∙◌, arith}
-use Rattle.og_model.specs.Shown.{Event}
+use Rattle.std.proofs.Common.{◌≡◌, ℕ, List, [], inl, inr, refl, sym, subst, arith}
 use Rattle.og_model.specs.Units.{State, Outcome, Done, Stop, Fault, Out, Ran, Doing}
 use Rattle.og_model.specs.Configuration.{Active}
 use Rattle.og_ir.specs.declared.Ir.{Ir}
 use Rattle.og_ir.specs.Cells.{Cells}
-use Rattle.og_ir.specs.Steps.{Config, Running, Over}
+use Rattle.og_ir.specs.Steps.{Config, Over}
 use Rattle.og_csubset.specs.Paced.{Pace, IsPace, paced_size}
 use Rattle.og_csubset.specs.Run.{Machine}
 use Rattle.og_follow.specs.Passing.{none_passed}
 use Rattle.og_follow.specs.Tracks.{Track}
 use Rattle.og_follow.specs.Answers.{AtRest, AtHalt, AnswersBy, Answers, Ended, RunsOn}
-use Rattle.og_follow.specs.Carrying.{Code, Standing, IsRunning, Exits, Ways, Point, Follows, Arrives, UsesUp, Carried, CarriesOut, code_at, Returned}
+use Rattle.og_follow.specs.Carrying.{Standing, Exits, Ways, Point, Arrives, Carried, CarriesOut, code_at, Returned}
 use Rattle.og_follow.proofs.Tracks.{begins, ends, runs_on}
 
 module _ (Rests : AtRest) (Halts : AtHalt) (machine : Machine) (pace : Pace) (is_pace : IsPace pace) (ir : Ir) (config : Config) where

@@ -1,19 +1,17 @@
 -- A call: the body of a procedure is carried out as part of its caller's transition, with variables of its own.
-use Rattle.std.proofs.Common.{◌≡◌, ℕ, ◌+◌, ◌≤◌, List, length, Option, Some, Result, Ok, Err, ◌⊎◌, inl, inr, refl, sym, ap, subst, ◌∙◌, arith}
+use Rattle.std.proofs.Common.{◌≡◌, ℕ, List, Option, Some, Ok, Err, inl, inr, sym, subst, arith}
 use Rattle.og_base.specs.declared.Place.{Place}
 use Rattle.og_types.specs.declared.Value.{Value}
-use Rattle.og_model.specs.declared.Arg.{Arg}
 use Rattle.og_model.specs.declared.FaultKind.{FaultKind}
 use Rattle.og_model.specs.declared.Model.{Model}
 use Rattle.og_model.specs.declared.Proc.{Proc}
 use Rattle.og_model.specs.declared.VarId.{VarId}
 use Rattle.og_model.specs.declared.Action.TheOpen.{Call}
-use Rattle.og_names.specs.declared.NameId.{NameId}
 use Rattle.og_model.specs.Expressions.{Passed}
-use Rattle.og_model.specs.Units.{State, Outcome, Done, Stop, Fault, Out, Doing, gives, then_do, or_fault, storing}
-use Rattle.og_model.specs.Actions.{Setting, Remainder, Going, Ended, Next, Dash, Return, going_at, own_values, with_call, calls_below, start_of, returned, setting_of, called, called_with, formals_of, passed_to, receiving, act_on}
+use Rattle.og_model.specs.Units.{State, Outcome, Done, Fault, Out, gives, then_do, or_fault}
+use Rattle.og_model.specs.Actions.{Setting, Remainder, Going, Ended, Next, Dash, Return, going_at, start_of, returned, setting_of, called, called_with, formals_of, passed_to, receiving, act_on}
 use Rattle.og_ir.specs.Steps.{Config}
-use Rattle.og_follow.specs.Carrying.{Code, Standing, in_state, Exits, nowhere, either, where_so, Apart, Among, Ways, becoming, by_state, Point, Carried, CarriesOut, no_places, one_then, CanFollow, Narrower}
+use Rattle.og_follow.specs.Carrying.{Code, Standing, in_state, Exits, Among, Ways, becoming, Carried, CarriesOut, no_places, one_then, CanFollow, Narrower}
 use Rattle.og_follow.specs.Trials.{in_call, behind_call, CarriesCall}
 use Rattle.og_follow.proofs.Carrying.{ends_at_once, never_begins, one_then_other, or_faults, by_state_of, becomes, as_wider}
 

@@ -1,5 +1,5 @@
 -- Each way in which the meaning puts doings together, and what code has to do for it.
-use Rattle.std.proofs.Common.{◌≡◌, ℕ, zero, suc, ◌+◌, ◌≤◌, Bool, true, false, nat_eq, List, [], ◌∷◌, ◌++◌, ◌⊎◌, inl, inr, ◌≢◌, Result, Ok, Err, refl, sym, ap, subst, ◌∙◌, arith}
+use Rattle.std.proofs.Common.{◌≡◌, ℕ, zero, suc, ◌+◌, ◌≤◌, Bool, true, false, nat_eq, List, [], ◌++◌, ◌⊎◌, inl, inr, ◌≢◌, Result, Ok, Err, refl, sym, ap, subst, ◌∙◌, arith}
 use Rattle.std.proofs.lemmas.Bool.{false≢true}
 use Rattle.std.proofs.lemmas.Bool.Decides.{eqb_tells}
 use Rattle.std.proofs.lemmas.List.{append_assoc, append-nil}
@@ -7,10 +7,10 @@ use Rattle.og_base.specs.declared.Place.{Place}
 use Rattle.og_model.specs.declared.FaultKind.{FaultKind}
 use Rattle.og_model.specs.Shown.{Event}
 use Rattle.og_model.specs.Units.{State, Outcome, Done, Stop, Fault, Out, Ran, Doing, ends, runs_out, after_events, go_on, then_do, spend, or_fault}
-use Rattle.og_ir.specs.Steps.{Config, Running}
+use Rattle.og_ir.specs.Steps.{Config}
 use Rattle.og_follow.specs.Passing.{Passed, none_passed, with_place}
 use Rattle.og_follow.specs.Tracks.{Track, since}
-use Rattle.og_follow.specs.Carrying.{Code, Standing, IsRunning, in_state, Exits, EndsAlike, only, Places, nowhere, either, where_so, Apart, Among, Free, Within, Ways, showing_each, by_state, becoming, by_units, Point, Follows, Gone, Passes, Moves, Begun, Begins, Fits, PassedBy, AtLeast, Arrives, UsesUp, Carried, CarriesOut, no_places, behind, behind_unit, before_places, one_then, CanFollow, Narrower}
+use Rattle.og_follow.specs.Carrying.{Code, Standing, IsRunning, in_state, Exits, EndsAlike, only, Places, nowhere, either, where_so, Apart, Among, Free, Within, Ways, showing_each, by_state, becoming, by_units, Point, Follows, Gone, Passes, Moves, Begun, Begins, Fits, PassedBy, AtLeast, Arrives, Carried, CarriesOut, behind, behind_unit, before_places, one_then, CanFollow, Narrower}
 use Rattle.og_follow.proofs.Passing.{elsewhere, not_there}
 use Rattle.og_follow.proofs.Tracks.{goes_on, begins_unit}
 
@@ -683,7 +683,7 @@ result_of other _ = other
 pub one_result : {A B : Type 0} (code : Code) (fuel : ℕ) (next : A → Doing B) (a : A) (standing : Standing) (after : Exits B) (P : Ways) → CarriesOut code fuel (next a) standing after P → (b : A) → CarriesOut code fuel (next b) (only (Done a) standing (Done b)) after P
 one_result code fuel next a standing after P carries b = record {
   carries = λ first from n s le follows at fits.
-    subst (λ c. Carried code first from n (next c n s) after P) (sym (ap (result_of a) at.0)) (carries.carries first from n s le follows at.1 fits);
+      subst (λ c. Carried code first from n (next c n s) after P) (sym (ap (result_of a) at.0)) (carries.carries first from n s le follows at.1 fits);
 }
 
 pub one_result_ends : {A B : Type 0} (a : A) (standing : Standing) (after : Exits B) → EndsAlike (only (Done a) standing) after
@@ -703,16 +703,16 @@ one_result_ends {A} a standing after = ((λ s now at. absurd (not_done at.0)), (
 pub only_passes : {A : Type 0} (code : Code) (there : Outcome A) (mid after : Standing) (X : Places) → Passes code mid [] after X → (o : Outcome A) → Passes code (only there mid o) [] (only there after o) X
 only_passes code there mid after X passes o = record {
   passes = λ first from s follows at free.
-    let a = passes.passes first from s follows at.1 free in
-    record { to = a.to; follows = a.follows; units = a.units; events = a.events; there = (at.0, a.there); passed = a.passed };
+      let a = passes.passes first from s follows at.1 free in
+      record { to = a.to; follows = a.follows; units = a.units; events = a.events; there = (at.0, a.there); passed = a.passed };
 }
 
 -- more places, and other standings
 pub passes_wider : (code : Code) (before before' : Standing) (shown : List Event) (after after' : Standing) (X Y : Places) → ((s : State) (now : Config) → before' s now → before s now) → ((s : State) (now : Config) → after s now → after' s now) → Among X Y → Passes code before shown after X → Passes code before' shown after' Y
 passes_wider code before before' shown after after' X Y begins leads among passes = record {
   passes = λ first from s follows at free.
-    let a = passes.passes first from s follows (begins s from.now at) (λ f p x. free f p (among f p x)) in
-    record { to = a.to; follows = a.follows; units = a.units; events = a.events; there = leads s a.to.now a.there; passed = within_more a.to.seen from.seen X Y among a.passed };
+      let a = passes.passes first from s follows (begins s from.now at) (λ f p x. free f p (among f p x)) in
+      record { to = a.to; follows = a.follows; units = a.units; events = a.events; there = leads s a.to.now a.there; passed = within_more a.to.seen from.seen X Y among a.passed };
 }
 
 pub same_ways : (P : Ways) → Narrower P P

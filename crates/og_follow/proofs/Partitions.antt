@@ -1,13 +1,13 @@
 -- Partitions are entered one after the other, and one of them may fail where others are entered already.
-use Rattle.std.proofs.Common.{◌≡◌, ℕ, ◌+◌, ◌≤◌, List, [], ◌∷◌, Option, Some, None, refl, sym, subst, arith}
+use Rattle.std.proofs.Common.{ℕ, List, [], ◌∷◌, Option, None, subst, arith}
 use Rattle.std.specs.Prelude.{⊤}
 use Rattle.og_model.specs.declared.Model.{Model}
 use Rattle.og_model.specs.declared.Partition.{Partition, out-Partition}
-use Rattle.og_model.specs.Units.{State, Outcome, Done, Stop, Fault, Out, Doing, gives, then_do, spend}
+use Rattle.og_model.specs.Units.{State, Outcome, Done, Out, Doing, gives, then_do, spend}
 use Rattle.og_model.specs.Configuration.{Active, Parts, add_part}
 use Rattle.og_model.specs.Moving.{Arrival, Entering, hook, started, in_partition, enter_parts}
 use Rattle.og_ir.specs.Steps.{Config}
-use Rattle.og_follow.specs.Carrying.{Code, Standing, Exits, EndsAlike, Ways, CarriesOut, no_places, one_then, CanFollow}
+use Rattle.og_follow.specs.Carrying.{Code, Standing, Exits, Ways, CarriesOut, no_places, one_then}
 use Rattle.og_follow.specs.Trials.{EntersPartitions, FailsInLast}
 use Rattle.og_follow.proofs.Carrying.{ends_at_once, never_begins, one_then_other, as_wider}
 use Rattle.og_follow.proofs.Calls.{same_way, then_nothing}

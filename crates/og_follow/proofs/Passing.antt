@@ -7,7 +7,7 @@ use Rattle.std.proofs.lemmas.Option.{none-some}
 use Rattle.og_ir.specs.declared.Ir.{Ir}
 use Rattle.og_ir.specs.declared.FlatFn.{FlatFn}
 use Rattle.og_csubset.specs.Paced.{Pace, statements_below, paced_size_from, paced_size}
-use Rattle.og_follow.specs.Passing.{Passed, none_passed, with_place, counted, passed_below, passed_from, passed}
+use Rattle.og_follow.specs.Passing.{Passed, with_place, counted, passed_below, passed_from, passed}
 
 -- ---- at most all statements
 

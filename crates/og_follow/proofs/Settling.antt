@@ -1,17 +1,16 @@
 -- Continuous signals are tested one after the other, and where one has fired they are tested again.
-use Rattle.std.proofs.Common.{◌≡◌, ℕ, zero, suc, ◌+◌, ◌≤◌, Bool, true, false, List, [], ◌∷◌, Result, Ok, Err, inl, inr, refl, sym, subst, arith}
+use Rattle.std.proofs.Common.{◌≡◌, ℕ, zero, suc, ◌≤◌, Bool, true, false, List, [], ◌∷◌, Result, Ok, Err, inl, inr, subst, arith}
 use Rattle.og_types.specs.declared.Value.{Value}
 use Rattle.og_model.specs.declared.FaultKind.{FaultKind}
 use Rattle.og_model.specs.declared.Model.{Model}
 use Rattle.og_model.specs.Expressions.{eval, no_frame, truth_of}
-use Rattle.og_model.specs.Units.{State, Outcome, Done, Stop, Fault, Out, Doing, gives, runs_out, then_do, spend, or_fault}
+use Rattle.og_model.specs.Units.{State, Done, Fault, Doing, runs_out, then_do, spend, or_fault}
 use Rattle.og_model.specs.Configuration.{Active}
 use Rattle.og_model.specs.Moving.{fire}
 use Rattle.og_model.specs.Settling.{Continuous, continuous_of, ordered, when, first_of, settle_by, settle}
-use Rattle.og_ir.specs.Steps.{Config}
-use Rattle.og_follow.specs.Carrying.{Code, Standing, in_state, Exits, Places, nowhere, either, where_so, Apart, Among, Ways, Passes, Begins, CarriesOut, behind, behind_unit, one_then, CanFollow, Narrower, Always}
+use Rattle.og_follow.specs.Carrying.{Code, Standing, in_state, Exits, Places, either, Apart, Among, Ways, CarriesOut, behind, behind_unit, one_then, CanFollow, Narrower, Always}
 use Rattle.og_follow.specs.Trials.{by_truth, where_tested, testing, Settles}
-use Rattle.og_follow.proofs.Carrying.{ends_at_once, or_faults, by_state_of, begins_then, passes_then, one_then_other, as_wider, by_fuel, spends_nothing}
+use Rattle.og_follow.proofs.Carrying.{ends_at_once, by_state_of, begins_then, passes_then, one_then_other, as_wider, by_fuel, spends_nothing}
 use Rattle.og_follow.proofs.Partitions.{is_done}
 
 module _ (code : Code) (M : Model) (settling : Active → Standing) (tests : Active → List Continuous → Standing) (firing : Active → Continuous → Standing) (fired after : Exits Active) (T X : Places) (F : Ways) (is : Settles code M settling tests firing fired after T X F) where

@@ -1,6 +1,6 @@
 -- What code does at the start and at each stimulus, where it answers as the meaning of a model does: it comes to its end with
 -- the same events, its slots standing for what the process is then, or it has shown as much and runs on.
-use Rattle.std.specs.Prelude.{◌≡◌, ℕ, ◌+◌, ◌*◌, ◌≤◌, List, [], Option, Some, None, IsTrue}
+use Rattle.std.specs.Prelude.{◌≡◌, ℕ, ◌+◌, ◌*◌, ◌≤◌, List, [], Some, None, IsTrue}
 use Rattle.og_model.specs.declared.Model.{Model}
 use Rattle.og_model.specs.Shown as Shows
 use Rattle.og_model.specs.Shown.{Event, Stimulus}

@@ -1,7 +1,7 @@
 -- What it is that code carries out a doing of the meaning. From a place where the doing begins the code shows the same events and
 -- comes to where the outcome leads it, or all units are used up, and it has shown as much and runs on. Each unit has a statement of
 -- its own, and between the beginnings of two units no place is passed twice; so with the doing goes which places it passes.
-use Rattle.std.specs.Prelude.{◌≡◌, ℕ, zero, suc, ◌+◌, ◌≤◌, Bool, false, List, ◌++◌, ◌⊎◌, IsTrue}
+use Rattle.std.specs.Prelude.{◌≡◌, ℕ, suc, ◌+◌, ◌≤◌, Bool, false, List, ◌++◌, ◌⊎◌, IsTrue}
 use Rattle.og_base.specs.declared.Place.{Place}
 use Rattle.og_model.specs.declared.FaultKind.{FaultKind}
 use Rattle.og_model.specs.Shown as Shows

@@ -1,7 +1,7 @@
 -- A run of code that is being followed: how many units of work were taken, how many statements were carried out, what was
 -- shown, and which places were passed since the last unit. Each unit has a statement of its own, and between the beginnings
 -- of two units no place is passed twice; what is passed before the first unit counts with it.
-use Rattle.std.specs.Prelude.{◌≡◌, ℕ, zero, suc, ◌+◌, ◌*◌, ◌≤◌, List, length, slice_get, Option, Some}
+use Rattle.std.specs.Prelude.{◌≡◌, ℕ, zero, suc, ◌+◌, ◌*◌, ◌≤◌, List, length, slice_get, Some}
 use Rattle.og_model.specs.Shown.{Event}
 use Rattle.og_ir.specs.declared.Ir.{Ir}
 use Rattle.og_ir.specs.declared.FlatFn.{FlatFn}

@@ -1,6 +1,6 @@
 -- What code has to do for the forms of the meaning that are hardest to follow: a call, the entering of partitions, and continuous
 -- signals that fire again. No code is made for these forms; the laws try the definition of what it is to carry out a doing.
-use Rattle.std.specs.Prelude.{◌≡◌, ℕ, ◌+◌, ◌≤◌, List, [], ◌∷◌, length, Option, Some, None, ⊤, Bool, true, false, Result, Ok, Err}
+use Rattle.std.specs.Prelude.{◌≡◌, ℕ, ◌≤◌, List, [], ◌∷◌, length, Option, None, ⊤, Bool, true, false, Result, Ok, Err}
 use Rattle.og_names.specs.declared.NameId.{NameId}
 use Rattle.og_types.specs.declared.Value.{Value}
 use Rattle.og_model.specs.declared.FaultKind.{FaultKind}

@@ -1,4 +1,4 @@
-use Rattle.og_follow.specs.Carrying.{told, led, listed, ways}
+use Rattle.og_follow.specs.Carrying.{told, led, ways}
 use Rattle.og_follow.proofs.Carrying.{one_then_other}
 use Rattle.og_follow.proofs.laws.doings_follow_one_another.Goals as goal
 

@@ -1,4 +1,4 @@
-use Rattle.og_follow.specs.Carrying.{told, led, listed, ways}
+use Rattle.og_follow.specs.Carrying.{told, led, ways}
 use Rattle.og_follow.proofs.Carrying.{or_faults}
 use Rattle.og_follow.proofs.laws.faults_lead_out.Goals as goal
 

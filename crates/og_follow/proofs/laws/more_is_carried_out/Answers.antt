@@ -1,4 +1,4 @@
-use Rattle.og_follow.specs.Carrying.{told, led, listed, ways}
+use Rattle.og_follow.specs.Carrying.{told, led, ways}
 use Rattle.og_follow.proofs.Carrying.{as_wider, by_fuel}
 use Rattle.og_follow.proofs.laws.more_is_carried_out.Goals as goal
 

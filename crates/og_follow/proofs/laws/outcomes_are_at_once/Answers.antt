@@ -1,4 +1,4 @@
-use Rattle.og_follow.specs.Carrying.{told, led, listed, ways}
+use Rattle.og_follow.specs.Carrying.{told, led, ways}
 use Rattle.og_follow.proofs.Carrying.{ends_at_once, runs_out_at_once}
 use Rattle.og_follow.proofs.laws.outcomes_are_at_once.Goals as goal
 

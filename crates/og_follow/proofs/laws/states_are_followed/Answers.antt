@@ -1,4 +1,4 @@
-use Rattle.og_follow.specs.Carrying.{told, led, listed, ways}
+use Rattle.og_follow.specs.Carrying.{told, led, ways}
 use Rattle.og_follow.proofs.Carrying.{by_state_of, becomes}
 use Rattle.og_follow.proofs.laws.states_are_followed.Goals as goal
 

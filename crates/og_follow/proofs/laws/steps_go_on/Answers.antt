@@ -1,4 +1,4 @@
-use Rattle.og_follow.specs.Carrying.{told, led, listed, ways}
+use Rattle.og_follow.specs.Carrying.{told, listed}
 use Rattle.og_follow.proofs.Carrying.{step_passes, step_begins, passes_on, begins_on}
 use Rattle.og_follow.proofs.laws.steps_go_on.Goals as goal
 

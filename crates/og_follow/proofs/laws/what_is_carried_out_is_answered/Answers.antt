@@ -1,5 +1,5 @@
 use Rattle.std.specs.Prelude.{IsTrue}
-use Rattle.og_follow.specs.Carrying.{told, led, listed, ways}
+use Rattle.og_follow.specs.Carrying.{told, ways}
 use Rattle.og_follow.proofs.Answering.{carried_is_answered}
 use Rattle.og_follow.proofs.laws.what_is_carried_out_is_answered.Goals as goal
 

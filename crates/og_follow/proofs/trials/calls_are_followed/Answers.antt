@@ -1,4 +1,4 @@
-use Rattle.og_follow.specs.Carrying.{told, led, listed, ways}
+use Rattle.og_follow.specs.Carrying.{told, led, ways}
 use Rattle.og_follow.proofs.Calls.{call_carried, call_action}
 use Rattle.og_follow.proofs.trials.calls_are_followed.Goals as goal
 

@@ -1,4 +1,4 @@
-use Rattle.og_follow.specs.Carrying.{told, led, listed, ways}
+use Rattle.og_follow.specs.Carrying.{told, led, ways}
 use Rattle.og_follow.proofs.Partitions.{enters_partitions, last_fails}
 use Rattle.og_follow.proofs.trials.partitions_are_followed.Goals as goal
 
