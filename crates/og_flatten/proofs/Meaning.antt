@@ -19,7 +19,7 @@ use Rattle.og_model.specs.declared.StateDef.{StateDef}
 use Rattle.og_model.specs.declared.StateKind.TheOpen as Kinds
 use Rattle.og_model.specs.Shown as Shows
 use Rattle.og_model.specs.Shown.{Event}
-use Rattle.og_model.specs.Units.{State, Done, Out, Ran, Doing, gives, runs_out, after_events, go_on, then_do, spend, or_fault, showing}
+use Rattle.og_model.specs.Units.{State, Ran, Doing, gives, runs_out, go_on, then_do, spend, or_fault, showing}
 use Rattle.og_model.specs.Forms.{is_plain_trigger}
 use Rattle.og_model.specs.Actions.{Setting, Remainder, Next, in_scope, going_at, values_of, sorts_of, act_on, end_with, run, perform}
 use Rattle.og_model.specs.Configuration.{Active, At, Basic, kind_of, state_at, kind_at, paths_of, paths_under, paths_inside}

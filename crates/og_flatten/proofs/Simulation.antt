@@ -1,8 +1,8 @@
 -- The code of a model of basic states answers the start and each stimulus as the meaning of the model does.
-use Rattle.std.proofs.Common.{◌≡◌, ℕ, zero, suc, ◌+◌, ◌*◌, ◌≤◌, ◌<◌, ℤ, pos, negsuc, Bool, true, false, nat_lt, cond, List, [], ◌∷◌, ◌++◌, map, length, slice_get, Option, Some, None, ◌⊎◌, inl, inr, unwrap_or, refl, sym, ap, subst, ◌∙◌, arith, IsTrue}
+use Rattle.std.proofs.Common.{◌≡◌, ℕ, suc, ◌+◌, ◌*◌, ◌≤◌, ◌<◌, ℤ, pos, negsuc, Bool, true, false, nat_lt, cond, List, [], ◌∷◌, ◌++◌, map, length, slice_get, Option, Some, None, inl, inr, unwrap_or, refl, sym, ap, subst, ◌∙◌, arith, IsTrue}
 use Rattle.std.specs.List.{list_all}
 use Rattle.std.proofs.lemmas.Bool.{false≢true, ltb-true}
-use Rattle.std.proofs.lemmas.Option.{none-some, slice_get_within}
+use Rattle.std.proofs.lemmas.Option.{none-some}
 use Rattle.og_names.specs.declared.NameId.{NameId}
 use Rattle.og_types.specs.declared.Value.{Value}
 use Rattle.og_model.specs.declared.Model.{Model}
@@ -21,31 +21,29 @@ use Rattle.og_model.specs.WellSorted.{is_place}
 use Rattle.og_model.specs.WellFormed.{IsWellFormed}
 use Rattle.og_model.specs.Shown as Shows
 use Rattle.og_model.specs.Shown.{Event, End, Stimulus}
-use Rattle.og_model.specs.Units.{State, Outcome, Done, Ran, Doing, gives}
+use Rattle.og_model.specs.Units.{State, Done, Doing, gives}
 use Rattle.og_model.specs.Configuration.{Active, At, Basic, paths_of}
 use Rattle.og_model.specs.Run.{first_state, start, step}
 use Rattle.og_ir.specs.declared.FlatFn.{FlatFn}
-use Rattle.og_ir.specs.declared.Instr.{Instr}
 use Rattle.og_ir.specs.declared.Instr.TheVariants as instr
-use Rattle.og_ir.specs.Arithmetic.{in_64_bits}
 use Rattle.og_ir.specs.Cells.{◌>>=◌, Cells}
 use Rattle.og_ir.specs.FlatSteps.{first_slots, case_of}
-use Rattle.og_ir.specs.Steps.{Config, Running, Over, quiet}
+use Rattle.og_ir.specs.Steps.{Config, Running, quiet}
 use Rattle.og_csubset.specs.Agreement.{is_stimulus, is_sent, are_in}
 use Rattle.og_csubset.specs.Fair.{Fair}
-use Rattle.og_csubset.specs.FlatRun.{slot_names, flat_function_names, flat_machine}
+use Rattle.og_csubset.specs.FlatRun.{slot_names, flat_function_names}
 use Rattle.og_csubset.specs.Kinds.{place_in}
 use Rattle.og_csubset.specs.Interface as interface
 use Rattle.og_csubset.specs.Paced.{Pace, IsPace, paced_size}
 use Rattle.og_csubset.specs.Reads.{Globals, path_of, all_of, values_of, number_named, paths_in, end_of, inputs_set}
 use Rattle.og_ir.specs.Reading.{truth_in}
-use Rattle.og_csubset.specs.Run.{Machine, entered}
+use Rattle.og_csubset.specs.Run.{entered}
 use Rattle.og_flatten.specs.FlatCode.{code_of, transition_function, transition_code, start_function, signal_function, signal_code, signal_end, first_entering, entering_place, end_place, states_of, bodies_of, bodies_code, body_cases, body_length, length_of_bodies, entering_code, choice_code, choices_code, choice_cases, is_input, handler_in, start_body, sets, region, chosen, read, is_stopped}
-use Rattle.og_follow.specs.Answers.{AtRest, AtHalt, AnswersBy, Answers, Ended, RunsOn, Simulates}
+use Rattle.og_follow.specs.Answers.{AtRest, AtHalt, Answers, Simulates}
 use Rattle.og_follow.specs.Carrying.{Standing, only, Places, nowhere, place, either, Apart, Among, Ways, Passes, no_places, behind, before_places, Always, Returned}
 use Rattle.og_follow.proofs.Carrying.{passes_on, passes_then, then_passes, only_passes, passes_wider, ends_at_once, same_doing, same_ways, as_wider}
 use Rattle.og_follow.proofs.Answering.{carried_is_answered}
-use Rattle.og_flatten.proofs.SingleSteps.{slots_at, step_of, sets_region, sets_chosen, table_of_chosen, table_of_region, not_stopped}
+use Rattle.og_flatten.proofs.SingleSteps.{slots_at, sets_region, sets_chosen, table_of_chosen, table_of_region, not_stopped}
 use Rattle.og_flatten.proofs.Places.{HasAt, BodyAt, bodies_placed, entering_placed, length_of_all, ChoiceAt, handled_placed, not_handled, has_at}
 use Rattle.og_flatten.proofs.Basic.{body_is, StateIs, state_is, start_is}
 use Rattle.og_flatten.proofs.Meaning.{whole, start_is_whole, step_takes, step_discards, paths_are}

@@ -1,6 +1,5 @@
 -- Code carries out a transition of basic states, from the first instruction of its body to the one that enters its next state.
-use Rattle.std.proofs.Common.{◌≡◌, ℕ, zero, suc, ◌+◌, ◌≤◌, ◌<◌, ℤ, pos, Bool, true, false, List, [], ◌∷◌, ◌++◌, map, length, slice_get, Option, Some, None, ◌⊎◌, inl, inr, refl, sym, ap, subst, ◌∙◌, arith}
-use Rattle.std.specs.Option.{option_map}
+use Rattle.std.proofs.Common.{◌≡◌, ℕ, zero, suc, ◌+◌, ◌≤◌, ◌<◌, ℤ, pos, Bool, true, false, List, [], ◌∷◌, ◌++◌, map, length, slice_get, Option, Some, None, inl, inr, refl, sym, ap, ◌∙◌, arith}
 use Rattle.std.proofs.lemmas.Bool.{false≢true}
 use Rattle.std.proofs.lemmas.Option.{slice_get_within}
 use Rattle.og_model.specs.declared.Model.{Model}
@@ -11,7 +10,7 @@ use Rattle.og_model.specs.declared.Ending.{Ending}
 use Rattle.og_model.specs.declared.EndKind.TheVariants as Ends
 use Rattle.og_model.specs.Shown as Shows
 use Rattle.og_model.specs.Shown.{Event}
-use Rattle.og_model.specs.Units.{State, Outcome, Done, Stop, Fault, Out, Doing, gives, runs_out, then_do, spend}
+use Rattle.og_model.specs.Units.{State, Outcome, Done, Out, Doing, gives, then_do, spend}
 use Rattle.og_model.specs.Actions.{Setting, Ended, Next, in_scope, run}
 use Rattle.og_model.specs.Configuration.{Active, At, Basic}
 use Rattle.og_model.specs.Moving.{Arrival, In, transition, after, enter, at_root}
@@ -25,7 +24,7 @@ use Rattle.og_ir.specs.Steps.{Frame, Config, Running, Over, quiet, jumped, showi
 use Rattle.og_csubset.specs.FlatRun.{flat_event, flat_machine}
 use Rattle.og_csubset.specs.Paced.{Pace, IsPace}
 use Rattle.og_csubset.specs.Run.{Machine}
-use Rattle.og_follow.specs.Carrying.{Code, Standing, Exits, only, IsRunning, Places, nowhere, place, either, where_so, Apart, Among, Ways, showing_each, Moves, Passes, Begins, CarriesOut, no_places, behind_unit, one_then, CanFollow, Narrower, code_at, Always}
+use Rattle.og_follow.specs.Carrying.{Code, Exits, only, IsRunning, Places, nowhere, place, either, Among, Ways, showing_each, Moves, Passes, Begins, CarriesOut, no_places, behind_unit, one_then, Narrower, code_at, Always}
 use Rattle.og_follow.proofs.Carrying.{step_passes, step_begins, ends_at_once, runs_out_at_once, begins_then, one_then_other, same_doing, by_fuel, as_wider, one_result, one_result_ends, same_ways}
 use Rattle.og_follow.proofs.Calls.{same_way, then_nothing}
 use Rattle.og_flatten.specs.FlatCode.{code_of, transition_function, transition_code, first_entering, entering_place, end_place, steps_of, end_of, body_at, body_length, bodies_of, states_of, sets, region, action_at, step_at, kind_at, ending_at}
