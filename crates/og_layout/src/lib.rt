@@ -1,0 +1,45 @@
+//! Where a process stands in the slots of its code, and what holds of slots that stand for one: what is read after writing.
+//!
+//! Definitions and laws alone: each function does nothing, and its contract is the law.
+#![tactic(auto)]
+
+ghost use Rattle.std.specs.Prelude.{◌≡◌, ℕ, List, Bool, true, false, if◌then◌else◌, Some, slice_get, slice_set, pos};
+ghost use Rattle.og_types.specs.declared.Sort.{Sort};
+ghost use Rattle.og_types.specs.declared.TypeId.{TypeId};
+ghost use Rattle.og_types.specs.declared.Value.{Value};
+ghost use Rattle.og_types.specs.Values.{is_in};
+ghost use Rattle.og_model.specs.declared.Model.{Model};
+ghost use Rattle.og_model.specs.declared.Variable.{Variable};
+ghost use Rattle.og_model.specs.Units.{State};
+ghost use Rattle.og_ir.specs.Cells.{Cells, Cell, global, change_global};
+ghost use Rattle.og_ir.specs.Reading.{cells_of};
+ghost use Rattle.og_layout.specs.Layout.{Layout, slots_of, Differ, Held, A_value, A_number, Holds, Expected, AllHold, once_written, Number, held_number, expected_of};
+
+/// Where cells are written into a slot, the slot holds what they hold, and the others hold what they held.
+pub fn written_slots_are_read()
+    ensures { (sorts : List Sort) (slots : List Cells) (k : ℕ) (cells : Cells) (held : Held) (xs : List Expected)
+        → AllHold sorts slots xs → Holds sorts held cells
+        → AllHold sorts (change_global k (λ old. cells) slots) (once_written k held xs) }
+{}
+
+/// What is expected once a slot was written is what is expected of the process that has changed so: in a variable's value, in
+/// whether a timer is active, or in the number of a region. No slot of the layout stands for two things.
+pub fn writing_is_expected()
+    ensures variable { (M : Model) (layout : Layout) (ns : List Number) (s : State) → Differ (slots_of layout)
+        → (i k : ℕ) (x : Variable) (old v : Value) → slice_get layout.variables i ≡ Some k → slice_get M.variables i ≡ Some x
+        → slice_get s.store.variables i ≡ Some old
+        → once_written k (A_value x.sort v) (expected_of M layout ns s)
+        ≡ expected_of M layout ns (record s { store = record s.store { variables = slice_set s.store.variables i v } }) }
+    ensures timer { (M : Model) (layout : Layout) (ns : List Number) (s : State) → Differ (slots_of layout)
+        → (i k : ℕ) (old b : Bool) → slice_get layout.timers i ≡ Some k → slice_get s.timers i ≡ Some old
+        → once_written k (A_number (pos (if b then 1 else 0))) (expected_of M layout ns s)
+        ≡ expected_of M layout ns (record s { timers = slice_set s.timers i b }) }
+    ensures region { (M : Model) (layout : Layout) (ns : List Number) (s : State) → Differ (slots_of layout)
+        → (i k : ℕ) (old n : Number) → slice_get layout.regions i ≡ Some k → slice_get ns i ≡ Some old
+        → once_written k (held_number n) (expected_of M layout ns s) ≡ expected_of M layout (slice_set ns i n) s }
+{}
+
+/// The cells of a value of a type hold it.
+pub fn values_are_held()
+    ensures { (sorts : List Sort) (t : TypeId) (v : Value) → is_in sorts t v ≡ true → Holds sorts (A_value t v) (cells_of sorts t v) }
+{}
