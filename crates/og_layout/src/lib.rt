@@ -13,6 +13,8 @@ ghost use Rattle.og_model.specs.declared.Variable.{Variable};
 ghost use Rattle.og_model.specs.Units.{State};
 ghost use Rattle.og_ir.specs.Cells.{Cells, Cell, global, change_global};
 ghost use Rattle.og_ir.specs.Reading.{cells_of};
+ghost use Rattle.og_layout.specs.Examples.{numbers, process, in_a, in_d, in_both, at_rest};
+ghost use Rattle.og_layout.specs.Layout.{Mark, Active, Inactive, Between, Basic, Comp, Agg, NoParts, Part, Leaf, NoLeaf, AnyLeaf, numbers_of, marked};
 ghost use Rattle.og_layout.specs.Layout.{Layout, slots_of, Differ, Held, A_value, A_number, Holds, Expected, AllHold, once_written, Number, held_number, expected_of};
 
 /// Where cells are written into a slot, the slot holds what they hold, and the others hold what they held.
@@ -42,4 +44,16 @@ pub fn writing_is_expected()
 /// The cells of a value of a type hold it.
 pub fn values_are_held()
     ensures { (sorts : List Sort) (t : TypeId) (v : Value) → is_in sorts t v ≡ true → Holds sorts (A_value t v) (cells_of sorts t v) }
+{}
+
+/// The numbers of the regions, for one tree of states: at rest, with a partition that is done, and half entered.
+#[tactic(auto, unfolding(og_model::proofs::Computing::trees))]
+pub fn region_numbers_compute()
+    ensures basic { numbers_of process in_a ≡ numbers (Leaf 0) NoLeaf NoLeaf }
+    ensures composite { numbers_of process in_d ≡ numbers (Leaf 2) NoLeaf NoLeaf }
+    ensures both { numbers_of process (in_both (Active 1 Basic) (Active 0 (Comp (Active 0 Basic)))) ≡ numbers (Leaf 3) (Leaf 1) (Leaf 0) }
+    ensures half_entered { numbers_of process (in_both (Active 0 Basic) Between) ≡ numbers (Leaf 3) (Leaf 0) AnyLeaf }
+    ensures one_done { numbers_of process (marked at_rest) ≡ numbers (Leaf 3) NoLeaf (Leaf 1) }
+    ensures completed { numbers_of process (Active 2 (Agg (Part Inactive (Part Inactive NoParts)))) ≡ numbers (Leaf 3) NoLeaf NoLeaf }
+    ensures left { numbers_of process Inactive ≡ numbers NoLeaf NoLeaf NoLeaf }
 {}
