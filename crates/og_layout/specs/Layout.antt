@@ -2,7 +2,8 @@
 -- besides. Slots stand for a process where each of them holds what is expected there. The numbers of all regions are one
 -- function of the marked tree of its active states: a part of the tree that is being left, entered or completed is marked, and
 -- of its regions nothing is expected.
-use Rattle.std.specs.Prelude.{◌≡◌, ℕ, zero, suc, ◌+◌, ℤ, pos, negsuc, Bool, true, false, if◌then◌else◌, nat_eq, List, [], ◌∷◌, ◌++◌, map, length, Option, Some, None}
+use Rattle.std.specs.Prelude.{◌≡◌, ℕ, zero, suc, ◌+◌, ℤ, pos, negsuc, Bool, true, false, if◌then◌else◌, nat_eq, List, [], ◌∷◌, ◌++◌, map, length, slice_get, Option, Some, None}
+use Rattle.og_names.specs.declared.NameId.{NameId}
 use Rattle.og_types.specs.declared.Sort.{Sort}
 use Rattle.og_types.specs.declared.TypeId.{TypeId}
 use Rattle.og_types.specs.declared.Value.{Value}
@@ -10,10 +11,11 @@ use Rattle.og_model.specs.declared.Model.{Model}
 use Rattle.og_model.specs.declared.Partition.{Partition, out-Partition}
 use Rattle.og_model.specs.declared.Scope.{Scope, out-Scope}
 use Rattle.og_model.specs.declared.StateDef.{StateDef}
-use Rattle.og_model.specs.declared.StateKind.TheOpen.{Composite, Aggregation}
+use Rattle.og_model.specs.declared.StateKind.TheOpen.{Composite, Aggregation, Basic as Plain}
 use Rattle.og_model.specs.declared.Variable.{Variable}
 use Rattle.og_model.specs.Configuration as Tree
-use Rattle.og_model.specs.Configuration.{Kind, kind_of}
+use Rattle.og_model.specs.Configuration.{Kind, kind_of, state_at}
+use Rattle.og_model.specs.RegionTypes as Leaves
 use Rattle.og_model.specs.RegionTypes.{Region}
 use Rattle.og_model.specs.Regions.{Insides, insides_of, state_insides, states_insides}
 use Rattle.og_model.specs.Units.{State}
@@ -203,3 +205,37 @@ expected_of M layout ns s =
 -- the slots stand for a process with these active states, variables and timers
 abbrev pub StandsFor : Model → Layout → Mark → State → List Cells → Type 0
 StandsFor M layout mark s slots = AllHold M.types slots (expected_of M layout (region_numbers M mark) s)
+
+-- ---- what the numbers tell
+
+-- the path of a leaf, where it is a basic state
+abbrev pub told_path : Region → Option Leaves.Leaf → List (List NameId)
+told_path region None = []
+told_path region (Some leaf) = if leaf.basic then (region.path ++ leaf.path) ∷ [] else []
+
+abbrev pub told_by : Region → Number → List (List NameId)
+told_by region (Leaf n) = told_path region (slice_get region.leaves n)
+told_by region NoLeaf = []
+told_by region AnyLeaf = []
+
+-- the paths of the active leaves, in the order of the regions
+abbrev pub told_paths : List Region → List Number → List (List NameId)
+told_paths (r ∷ rs) (n ∷ ns) = told_by r n ++ told_paths rs ns
+told_paths _ _ = []
+
+abbrev mutual
+  -- the tree of active states is one of the scope: each state is there, and is of the kind that its inside says
+  pub IsActive : Scope → Tree.Active → Type 0
+  IsActive m (Tree.At k inside) = (d : StateDef) × (state_at m k ≡ Some d) × IsInside (kind_of d) inside
+
+  pub IsInside : Kind → Tree.Inside → Type 0
+  IsInside Plain Tree.Basic = Unit {0}
+  IsInside (Composite entry exit inner) (Tree.Comp a) = IsActive inner a
+  IsInside (Aggregation entry exit qs) (Tree.Agg ps) = AreParts qs ps
+  IsInside _ _ = ⊥
+
+  pub AreParts : List Partition → Tree.Parts → Type 0
+  AreParts [] Tree.NoParts = Unit {0}
+  AreParts (q ∷ qs) (Tree.Going a ps) = IsActive (out-Partition q).inner a × AreParts qs ps
+  AreParts (q ∷ qs) (Tree.Finished ps) = AreParts qs ps
+  AreParts _ _ = ⊥

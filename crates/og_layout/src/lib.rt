@@ -10,11 +10,13 @@ ghost use Rattle.og_types.specs.declared.Value.{Value};
 ghost use Rattle.og_types.specs.Values.{is_in};
 ghost use Rattle.og_model.specs.declared.Model.{Model};
 ghost use Rattle.og_model.specs.declared.Variable.{Variable};
+ghost use Rattle.og_model.specs.Configuration.{Active as Configuration, paths_of};
+ghost use Rattle.og_model.specs.Regions.{regions};
 ghost use Rattle.og_model.specs.Units.{State};
 ghost use Rattle.og_ir.specs.Cells.{Cells, Cell, global, change_global};
 ghost use Rattle.og_ir.specs.Reading.{cells_of};
 ghost use Rattle.og_layout.specs.Examples.{numbers, process, in_a, in_d, in_both, at_rest};
-ghost use Rattle.og_layout.specs.Layout.{Mark, Active, Inactive, Between, Basic, Comp, Agg, NoParts, Part, Leaf, NoLeaf, AnyLeaf, numbers_of, marked};
+ghost use Rattle.og_layout.specs.Layout.{Mark, Active, Inactive, Between, Basic, Comp, Agg, NoParts, Part, Leaf, NoLeaf, AnyLeaf, numbers_of, marked, region_numbers, told_paths, IsActive};
 ghost use Rattle.og_layout.specs.Layout.{Layout, slots_of, Differ, Held, A_value, A_number, Holds, Expected, AllHold, once_written, Number, held_number, expected_of};
 
 /// Where cells are written into a slot, the slot holds what they hold, and the others hold what they held.
@@ -44,6 +46,11 @@ pub fn writing_is_expected()
 /// The cells of a value of a type hold it.
 pub fn values_are_held()
     ensures { (sorts : List Sort) (t : TypeId) (v : Value) → is_in sorts t v ≡ true → Holds sorts (A_value t v) (cells_of sorts t v) }
+{}
+
+/// What the numbers of all regions tell of a process at rest are the paths of its active basic states, in their order.
+pub fn numbers_tell_paths()
+    ensures { (M : Model) (a : Configuration) → IsActive M.root a → told_paths (regions M) (region_numbers M (marked a)) ≡ paths_of M.root a }
 {}
 
 /// The numbers of the regions, for one tree of states: at rest, with a partition that is done, and half entered.
