@@ -8,8 +8,9 @@ use Rattle.og_types.specs.declared.Value.{Value}
 use Rattle.og_model.specs.declared.Model.{Model}
 use Rattle.og_model.specs.declared.Variable.{Variable}
 use Rattle.og_model.specs.Units.{State}
-use Rattle.og_ir.specs.Cells.{Cells, global, change_global}
-use Rattle.og_layout.specs.Layout.{Layout, slots_of, IsNew, Differ, Held, A_value, A_number, Anything, Holds, Expected, HoldsAt, AllHold, but_at, once_written, Number, variables_in, timers_in, held_number, regions_in, anything_in, control_in, besides, expected_of}
+use Rattle.og_ir.specs.Cells.{Cells, Cell, global, change_global}
+use Rattle.og_ir.specs.Reading.{value_in}
+use Rattle.og_layout.specs.Layout.{StandsFor, Mark, region_numbers, Layout, slots_of, IsNew, Differ, Held, A_value, A_number, Anything, Holds, Expected, HoldsAt, AllHold, but_at, once_written, Number, variables_in, timers_in, held_number, regions_in, anything_in, control_in, besides, expected_of}
 use Rattle.og_names.proofs.Truths.{same_value as some_is}
 
 -- ---- one slot
@@ -206,6 +207,24 @@ sets_region (suc i) k (j ∷ ks) (c ∷ ns) old n d at n_at =
     ap (λ e. e ∷ once_written k (held_number n) (regions_in ks ns)) (written_elsewhere k j (held_number n) (held_number c) (new_at j i k ks d.0 at))
     ∙ ap (λ es. record { slot = j; held = held_number c } ∷ es) (sets_region i k ks ns old n d.1 at n_at)
 
+sets_anything : (k : ℕ) (ks : List ℕ) → once_written k Anything (anything_in ks) ≡ anything_in ks
+sets_anything k [] = refl
+sets_anything k (j ∷ ks) =
+    ap (λ y. y ∷ once_written k Anything (anything_in ks)) (same_slot (eqb_tells j k))
+    ∙ ap (λ ys. record { slot = j; held = Anything } ∷ ys) (sets_anything k ks)
+  where
+    same_slot : ((nat_eq j k ≡ true) × (j ≡ k)) ⊎ ((nat_eq j k ≡ false) × (j ≢ k)) → but_at k Anything (record { slot = j; held = Anything }) ≡ record { slot = j; held = Anything }
+    same_slot (inl (t, same)) =
+        ap (λ b. if b then record { slot = k; held = Anything } else record { slot = j; held = Anything }) t
+        ∙ ap (λ m. record { slot = m; held = Anything }) (sym same)
+    same_slot (inr (f, other)) = written_elsewhere k j Anything Anything other
+
+sets_besides : (k : ℕ) (layout : Layout) → IsNew k (layout.stopped ∷ layout.fault ∷ []) → once_written k Anything (besides layout) ≡ besides layout
+sets_besides k layout new =
+    ap (λ y. y ∷ (but_at k Anything (record { slot = layout.fault; held = A_number (pos 0) }) ∷ once_written k Anything (anything_in (behind_control layout)))) (written_elsewhere k layout.stopped Anything (A_number (pos 0)) new.0)
+    ∙ ap (λ y. record { slot = layout.stopped; held = A_number (pos 0) } ∷ (y ∷ once_written k Anything (anything_in (behind_control layout)))) (written_elsewhere k layout.fault Anything (A_number (pos 0)) new.1.0)
+    ∙ ap (λ ys. record { slot = layout.stopped; held = A_number (pos 0) } ∷ (record { slot = layout.fault; held = A_number (pos 0) } ∷ ys)) (sets_anything k (behind_control layout))
+
 -- ---- the whole
 
 module _ (M : Model) (layout : Layout) (ns : List Number) (s : State) (d : Differ (slots_of layout)) where
@@ -277,3 +296,51 @@ module _ (M : Model) (layout : Layout) (ns : List Number) (s : State) (d : Diffe
       ∙ ap (λ xs. vs ++ (xs ++ (once_written k held (regions_in layout.regions ns) ++ once_written k held (besides layout)))) (keeps_timers k held layout.timers s.timers (apart_any k layout.timers behind_timers others in_timers))
       ∙ ap (λ rs. vs ++ (ts ++ (rs ++ once_written k held (besides layout)))) (sets_region i k layout.regions ns old n (differ_first layout.regions behind_regions last) at n_at)
       ∙ ap (λ bs. vs ++ (ts ++ (regions_in layout.regions (slice_set ns i n) ++ bs))) (keeps_besides k held layout (apart_first i k layout.regions behind_regions last at))
+
+  -- what is written besides
+  pub besides_written : (i k : ℕ) → slice_get (behind_control layout) i ≡ Some k → once_written k Anything (expected_of M layout ns s) ≡ expected_of M layout ns s
+  besides_written i k at =
+      let held : Held = Anything in
+      let vs = variables_in layout.variables M.variables s.store.variables in
+      let ts = timers_in layout.timers s.timers in
+      let rs = regions_in layout.regions ns in
+      let in_besides = is_in_second k (layout.stopped ∷ layout.fault ∷ []) (behind_control layout) (record { place = i; at = at }) in
+      let in_rest = is_in_second k layout.regions behind_regions in_besides in
+      let in_timers = is_in_second k layout.timers behind_timers in_rest in
+      let control = differ_second layout.regions behind_regions last in
+      parts k held
+      ∙ ap (λ xs. xs ++ (once_written k held ts ++ (once_written k held rs ++ once_written k held (besides layout)))) (keeps_variables k held layout.variables M.variables s.store.variables (apart_any k layout.variables behind_variables d in_timers))
+      ∙ ap (λ xs. vs ++ (xs ++ (once_written k held rs ++ once_written k held (besides layout)))) (keeps_timers k held layout.timers s.timers (apart_any k layout.timers behind_timers others in_rest))
+      ∙ ap (λ xs. vs ++ (ts ++ (xs ++ once_written k held (besides layout)))) (keeps_regions k held layout.regions ns (apart_any k layout.regions behind_regions last in_besides))
+      ∙ ap (λ xs. vs ++ (ts ++ (rs ++ xs))) (sets_besides k layout (apart_any k (layout.stopped ∷ layout.fault ∷ []) (behind_control layout) control (record { place = i; at = at })))
+
+-- ---- slots that stand for a process
+
+-- what is written, where something else is expected then
+stands_once : (sorts : List Sort) (slots : List Cells) (k : ℕ) (cells : Cells) (held : Held) (xs ys : List Expected) → once_written k held xs ≡ ys → AllHold sorts slots xs → Holds sorts held cells → AllHold sorts (change_global k (λ old. cells) slots) ys
+stands_once sorts slots k cells held xs ys same all holds = subst (AllHold sorts (change_global k (λ old. cells) slots)) same (all_written sorts slots k cells held xs all holds)
+
+pub variable_stands : (M : Model) (layout : Layout) (mark : Mark) (s : State) (slots : List Cells) → Differ (slots_of layout) → StandsFor M layout mark s slots → (i k : ℕ) (x : Variable) (old v : Value) (cells : Cells) → slice_get layout.variables i ≡ Some k → slice_get M.variables i ≡ Some x → slice_get s.store.variables i ≡ Some old
+    → value_in M.types x.sort cells ≡ Some v → StandsFor M layout mark (record s { store = record s.store { variables = slice_set s.store.variables i v } }) (change_global k (λ was. cells) slots)
+variable_stands M layout mark s slots d stands i k x old v cells at x_at v_at holds =
+    stands_once M.types slots k cells (A_value x.sort v) (expected_of M layout (region_numbers M mark) s) (expected_of M layout (region_numbers M mark) (record s { store = record s.store { variables = slice_set s.store.variables i v } }))
+    (variable_written M layout (region_numbers M mark) s d i k x old v at x_at v_at) stands holds
+
+pub timer_stands : (M : Model) (layout : Layout) (mark : Mark) (s : State) (slots : List Cells) → Differ (slots_of layout) → StandsFor M layout mark s slots → (i k : ℕ) (old b : Bool) → slice_get layout.timers i ≡ Some k → slice_get s.timers i ≡ Some old
+    → StandsFor M layout mark (record s { timers = slice_set s.timers i b }) (change_global k (λ was. Cell (pos (if b then 1 else 0))) slots)
+timer_stands M layout mark s slots d stands i k old b at b_at =
+    stands_once M.types slots k (Cell (pos (if b then 1 else 0))) (A_number (pos (if b then 1 else 0))) (expected_of M layout (region_numbers M mark) s) (expected_of M layout (region_numbers M mark) (record s { timers = slice_set s.timers i b }))
+    (timer_written M layout (region_numbers M mark) s d i k old b at b_at) stands refl
+
+-- the number of one region, where the tree is marked otherwise then
+pub region_stands : (M : Model) (layout : Layout) (mark later : Mark) (s : State) (slots : List Cells) → Differ (slots_of layout) → StandsFor M layout mark s slots → (i k : ℕ) (old n : Number) (cells : Cells) → slice_get layout.regions i ≡ Some k → slice_get (region_numbers M mark) i ≡ Some old
+    → slice_set (region_numbers M mark) i n ≡ region_numbers M later → Holds M.types (held_number n) cells → StandsFor M layout later s (change_global k (λ was. cells) slots)
+region_stands M layout mark later s slots d stands i k old n cells at n_at same holds =
+    stands_once M.types slots k cells (held_number n) (expected_of M layout (region_numbers M mark) s) (expected_of M layout (region_numbers M later) s)
+    (region_written M layout (region_numbers M mark) s d i k old n at n_at ∙ ap (λ ns. expected_of M layout ns s) same) stands holds
+
+pub besides_stands : (M : Model) (layout : Layout) (mark : Mark) (s : State) (slots : List Cells) → Differ (slots_of layout) → StandsFor M layout mark s slots → (i k : ℕ) (cells : Cells) → slice_get (layout.locals ++ (layout.durations ++ layout.parameters)) i ≡ Some k
+    → StandsFor M layout mark s (change_global k (λ was. cells) slots)
+besides_stands M layout mark s slots d stands i k cells at =
+    stands_once M.types slots k cells Anything (expected_of M layout (region_numbers M mark) s) (expected_of M layout (region_numbers M mark) s)
+    (besides_written M layout (region_numbers M mark) s d i k at) stands tt
