@@ -7,8 +7,8 @@ use Rattle.og_model.specs.Units.{State, Outcome, Done, Out, Doing, gives, then_d
 use Rattle.og_model.specs.Configuration.{Active, Parts, add_part}
 use Rattle.og_model.specs.Moving.{Arrival, Entering, hook, started, in_partition, enter_parts}
 use Rattle.og_ir.specs.Steps.{Config}
-use Rattle.og_follow.specs.Carrying.{Code, Standing, Exits, Ways, CarriesOut, no_places, one_then}
-use Rattle.og_follow.specs.Trials.{EntersPartitions, FailsInLast}
+use Rattle.og_follow.specs.Carrying.{Code, Standing, Exits, Ways, CarriesOut, no_places, one_then, CanFollow}
+use Rattle.og_follow.specs.Trials.{EntersOne, EntersPartitions, FailsInLast, without_result}
 use Rattle.og_follow.proofs.Carrying.{ends_at_once, never_begins, one_then_other, as_wider}
 use Rattle.og_follow.proofs.Calls.{same_way, then_nothing}
 
@@ -52,3 +52,32 @@ last_fails code fuel M enter q before hooked failed after H S is =
     (λ x. never_begins code fuel (parts x) (failed (Done x)) after no_places (is.never x))
     is.start_ends (then_nothing S)))
     is.entry_ends is.first
+
+-- the second of two fails, whatever the first arrived at
+pub second_fails : (code : Code) (fuel : ℕ) (M : Model) (enter : Entering) (q r : Partition) (before : Standing) (hooked : Exits ⊤) (arrived : Exits Arrival) (parted : Exits (Option Active)) (hooked_then : Exits ⊤) (failed : Exits Arrival) (after : Exits Parts) (H S R K F : Ways)
+    → EntersOne code fuel M enter q before hooked arrived parted after H S R
+    → ((a : Option Active) → FailsInLast code fuel M enter r (parted (Done a)) hooked_then failed after K F)
+    → CanFollow R (one_then K F) → CanFollow S (one_then R (one_then K F)) → CanFollow H (one_then S (one_then R (one_then K F)))
+    → CarriesOut code fuel (enter_parts M enter (q ∷ r ∷ [])) before after (one_then H (one_then S (one_then R (one_then K F))))
+second_fails code fuel M enter q r before hooked arrived parted hooked_then failed after H S R K F one fails third second first =
+    enters_partitions code fuel M enter q (r ∷ []) before hooked arrived parted (λ a. without_result after) after H S R (one_then K F) (record {
+      entry = one.entry;
+      start = one.start;
+      part = one.part;
+      more = λ a. last_fails code fuel M enter r (parted (Done a)) hooked_then failed (without_result after) K F (record {
+        entry = (fails a).entry;
+        start = (fails a).start;
+        never = (fails a).never;
+        entry_ends = (fails a).entry_ends;
+        start_ends = (fails a).start_ends;
+        first = (fails a).first;
+      });
+      done = λ a ps s now at. absurd at;
+      entry_ends = one.entry_ends;
+      start_ends = one.start_ends;
+      part_ends = one.part_ends;
+      more_ends = λ a. ((λ s now at. at), (λ kind place s now at. at));
+      third = third;
+      second = second;
+      first = first;
+    })

@@ -54,6 +54,20 @@ pub record EntersPartitions (code : Code) (fuel : ℕ) (M : Model) (enter : Ente
   pub second : CanFollow S (one_then R T)
   pub first : CanFollow H (one_then S (one_then R T))
 
+-- One of several partitions: its `entry`, its start, and what follows where that has returned.
+pub record EntersOne (code : Code) (fuel : ℕ) (M : Model) (enter : Entering) (q : Partition) (before : Standing) (hooked : Exits ⊤) (arrived : Exits Arrival) (parted : Exits (Option Active)) (after : Exits Parts) (H S R : Ways) : Type 0 where
+  pub entry : CarriesOut code fuel (spend (hook M (out-Partition q).entry)) before hooked H
+  pub start : CarriesOut code fuel (started M enter (out-Partition q).inner None) (hooked (Done tt)) arrived S
+  pub part : (x : Arrival) → CarriesOut code fuel (in_partition M (out-Partition q).exit x) (arrived (Done x)) parted R
+  pub entry_ends : EndsAlike hooked after
+  pub start_ends : EndsAlike arrived after
+  pub part_ends : EndsAlike parted after
+
+-- no result
+abbrev pub without_result : {A : Type 0} → Exits A → Exits A
+without_result after (Done a) s now = ⊥
+without_result after o s now = after o s now
+
 -- The last partition, whose start does nothing but fail, or stop.
 pub record FailsInLast (code : Code) (fuel : ℕ) (M : Model) (enter : Entering) (q : Partition) (before : Standing) (hooked : Exits ⊤) (failed : Exits Arrival) (after : Exits Parts) (H S : Ways) : Type 0 where
   pub entry : CarriesOut code fuel (spend (hook M (out-Partition q).entry)) before hooked H

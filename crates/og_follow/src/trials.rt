@@ -12,15 +12,15 @@ ghost use Rattle.og_model.specs.declared.VarId.{VarId};
 ghost use Rattle.og_model.specs.declared.Action.TheOpen.{Call};
 ghost use Rattle.og_types.specs.declared.Value.{Value};
 ghost use Rattle.og_model.specs.Expressions as values;
-ghost use Rattle.og_model.specs.Units.{State, Fault, then_do};
+ghost use Rattle.og_model.specs.Units.{State, Done, Fault, then_do};
 ghost use Rattle.og_model.specs.Actions.{Setting, Remainder, Going, Ended, called, called_with, formals_of, passed_to, receiving, act_on};
 ghost use Rattle.og_model.specs.Configuration.{Active, Parts};
 ghost use Rattle.og_model.specs.Moving.{Arrival, Entering, enter_parts};
 ghost use Rattle.og_model.specs.Settling.{Continuous, settle};
 ghost use Rattle.og_ir.specs.Steps.{Config};
 ghost use Rattle.og_follow.specs.Passing.{Passed};
-ghost use Rattle.og_follow.specs.Carrying.{Code, in_state, CarriesOut, behind, one_then, Test, told, Leads, led, listed, Routes, ways, Always};
-ghost use Rattle.og_follow.specs.Trials.{CarriesCall, EntersPartitions, FailsInLast, testing, Settles};
+ghost use Rattle.og_follow.specs.Carrying.{Code, in_state, CarriesOut, CanFollow, behind, one_then, Test, told, Leads, led, listed, Routes, ways, Always};
+ghost use Rattle.og_follow.specs.Trials.{CarriesCall, EntersOne, EntersPartitions, FailsInLast, testing, Settles};
 
 /// The body of a procedure is carried out with variables of its own, up to its return; the action evaluates its arguments
 /// first, and a fault of them has its place.
@@ -47,6 +47,16 @@ pub fn partitions_are_followed()
         (ways H) (ways S) (ways R) (ways T)
         → CarriesOut code fuel (enter_parts M enter (q ∷ qs)) (told before) (led after)
         (one_then (ways H) (one_then (ways S) (one_then (ways R) (ways T)))) }
+    ensures second_fails { (code : Code) (fuel : ℕ) (M : Process) (enter : Entering) (q r : Partition) (before : Test)
+        (hooked : Leads ⊤) (arrived : Leads Arrival) (parted : Leads (Option Active)) (hooked_then : Leads ⊤) (failed : Leads Arrival)
+        (after : Leads Parts) (H S R K F : Routes)
+        → EntersOne code fuel M enter q (told before) (led hooked) (led arrived) (led parted) (led after) (ways H) (ways S) (ways R)
+        → ((a : Option Active)
+        → FailsInLast code fuel M enter r (led parted (Done a)) (led hooked_then) (led failed) (led after) (ways K) (ways F))
+        → CanFollow (ways R) (one_then (ways K) (ways F)) → CanFollow (ways S) (one_then (ways R) (one_then (ways K) (ways F)))
+        → CanFollow (ways H) (one_then (ways S) (one_then (ways R) (one_then (ways K) (ways F))))
+        → CarriesOut code fuel (enter_parts M enter (q ∷ r ∷ [])) (told before) (led after)
+        (one_then (ways H) (one_then (ways S) (one_then (ways R) (one_then (ways K) (ways F))))) }
     ensures last_fails { (code : Code) (fuel : ℕ) (M : Process) (enter : Entering) (q : Partition) (before : Test)
         (hooked : Leads ⊤) (failed : Leads Arrival) (after : Leads Parts) (H S : Routes)
         → FailsInLast code fuel M enter q (told before) (led hooked) (led failed) (led after) (ways H) (ways S)
