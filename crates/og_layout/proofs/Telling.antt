@@ -13,9 +13,9 @@ use Rattle.og_model.specs.Configuration as Tree
 use Rattle.og_model.specs.Configuration.{Kind, kind_of, state_at, under, paths_under, paths_of, paths_inside, paths_in_parts}
 use Rattle.og_model.specs.RegionTypes as Leaves
 use Rattle.og_model.specs.RegionTypes.{Region}
-use Rattle.og_model.specs.Regions.{Insides, followed_by, leaf_under, region_under, insides_under, partition_regions, regions_of_partitions, kind_insides, state_insides, states_insides, insides_of, regions}
+use Rattle.og_model.specs.Regions.{Insides, followed_by, leaf_under, region_under, insides_under, regions_of_partitions, kind_insides, state_insides, states_insides, insides_of, regions}
 use Rattle.og_model.proofs.RegionLayers.{insides_is}
-use Rattle.og_layout.specs.Layout.{Mark, MarkedInside, MarkedParts, Number, Leaf, NoLeaf, AnyLeaf, Numbers, behind_leaves, all_of, among, numbers_of, numbers_inside, numbers_of_parts, region_numbers, marked, marked_inside, marked_parts, told_path, told_by, told_paths, IsActive, IsInside, AreParts}
+use Rattle.og_layout.specs.Layout.{Number, Leaf, NoLeaf, AnyLeaf, Numbers, behind_leaves, all_of, among, numbers_of, numbers_inside, numbers_of_parts, region_numbers, marked, marked_inside, marked_parts, told_path, told_by, told_paths, IsActive, IsInside, AreParts}
 use Rattle.og_names.proofs.Truths.{same_value as some_is}
 
 -- the path of a leaf of the region that is looked at

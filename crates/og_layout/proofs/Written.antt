@@ -1,5 +1,5 @@
 -- Reading after writing: a slot that was written holds what was written, and every other one what it held.
-use Rattle.std.proofs.Common.{◌≡◌, ℕ, zero, suc, ◌+◌, ℤ, pos, Bool, true, false, if◌then◌else◌, nat_eq, List, [], ◌∷◌, ◌++◌, map, length, slice_get, slice_set, Option, Some, None, ◌⊎◌, inl, inr, ◌≢◌, refl, sym, ap, subst, ◌∙◌, arith}
+use Rattle.std.proofs.Common.{◌≡◌, ℕ, zero, suc, pos, Bool, true, false, if◌then◌else◌, nat_eq, List, [], ◌∷◌, ◌++◌, slice_get, slice_set, Some, ◌⊎◌, inl, inr, ◌≢◌, refl, sym, ap, subst, ◌∙◌}
 use Rattle.std.proofs.lemmas.Bool.{ne_eqb, eq-eqb}
 use Rattle.std.proofs.lemmas.Bool.Decides.{eqb_tells}
 use Rattle.std.proofs.lemmas.Option.{none-some}
@@ -10,7 +10,7 @@ use Rattle.og_model.specs.declared.Variable.{Variable}
 use Rattle.og_model.specs.Units.{State}
 use Rattle.og_ir.specs.Cells.{Cells, Cell, global, change_global}
 use Rattle.og_ir.specs.Reading.{value_in}
-use Rattle.og_layout.specs.Layout.{StandsFor, Mark, region_numbers, Layout, slots_of, IsNew, Differ, Held, A_value, A_number, Anything, Holds, Expected, HoldsAt, AllHold, but_at, once_written, Number, variables_in, timers_in, held_number, regions_in, anything_in, control_in, besides, expected_of}
+use Rattle.og_layout.specs.Layout.{StandsFor, Mark, region_numbers, Layout, slots_of, IsNew, Differ, Held, A_value, A_number, Anything, Holds, Expected, HoldsAt, AllHold, but_at, once_written, Number, variables_in, timers_in, held_number, regions_in, anything_in, besides, expected_of}
 use Rattle.og_names.proofs.Truths.{same_value as some_is}
 
 -- ---- one slot

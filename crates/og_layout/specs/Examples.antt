@@ -10,7 +10,7 @@ use Rattle.og_model.specs.declared.StateDef.{StateDef}
 use Rattle.og_model.specs.declared.StateKind.{StateKind}
 use Rattle.og_model.specs.declared.StateKind as Kinds
 use Rattle.og_model.specs.Configuration as Tree
-use Rattle.og_layout.specs.Layout.{Mark, Active, Inactive, Between, Basic, Comp, Agg, NoParts, Part, Number, Leaf, NoLeaf, AnyLeaf, Numbers}
+use Rattle.og_layout.specs.Layout.{Mark, Active, Basic, Comp, Agg, NoParts, Part, Number, Numbers}
 
 abbrev pub somewhere : Place
 somewhere = record { file = 0; line = 1; column = 1 }

@@ -2,7 +2,7 @@
 -- besides. Slots stand for a process where each of them holds what is expected there. The numbers of all regions are one
 -- function of the marked tree of its active states: a part of the tree that is being left, entered or completed is marked, and
 -- of its regions nothing is expected.
-use Rattle.std.specs.Prelude.{◌≡◌, ℕ, zero, suc, ◌+◌, ℤ, pos, negsuc, Bool, true, false, if◌then◌else◌, nat_eq, List, [], ◌∷◌, ◌++◌, map, length, slice_get, Option, Some, None}
+use Rattle.std.specs.Prelude.{◌≡◌, ℕ, zero, suc, ◌+◌, ℤ, pos, negsuc, Bool, if◌then◌else◌, nat_eq, List, [], ◌∷◌, ◌++◌, map, length, slice_get, Option, Some, None}
 use Rattle.og_names.specs.declared.NameId.{NameId}
 use Rattle.og_types.specs.declared.Sort.{Sort}
 use Rattle.og_types.specs.declared.TypeId.{TypeId}
@@ -19,7 +19,7 @@ use Rattle.og_model.specs.RegionTypes as Leaves
 use Rattle.og_model.specs.RegionTypes.{Region}
 use Rattle.og_model.specs.Regions.{Insides, insides_of, state_insides, states_insides}
 use Rattle.og_model.specs.Units.{State}
-use Rattle.og_ir.specs.Cells.{Cells, Cell, global, change_global}
+use Rattle.og_ir.specs.Cells.{Cells, Cell, global}
 use Rattle.og_ir.specs.Reading.{value_in}
 
 -- the numbers of the slots
