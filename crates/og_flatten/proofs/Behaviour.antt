@@ -10,8 +10,9 @@ use Rattle.og_csubset.specs.Paced.{Pace, IsPace, IsSafe, paced, paced_size}
 use Rattle.og_csubset.proofs.PacedRuns.{paced_at_one}
 use Rattle.og_flatten.specs.Code.{enough_at}
 use Rattle.og_flatten.specs.FlatCode.{code_of}
-use Rattle.og_flatten.proofs.Agreeing.{same_runs}
-use Rattle.og_flatten.proofs.Simulation.{IsBasic, machine_of, Rests, Halts, simulates}
+use Rattle.og_follow.proofs.Agreeing.{same_runs}
+use Rattle.og_flatten.proofs.Simulation.{IsBasic, Rests, Halts, simulates}
+use Rattle.og_flatten.proofs.Transitions.{machine_of}
 
 pub runs : (model : Model) → IsBasic model → (pace : Pace) → IsPace pace
     → SameRuns (AreStimuli model) (enough_at pace (code_of model)) (sdl model) (paced pace (code_of model) model)

@@ -8,16 +8,11 @@ pub mod Shapes
 pub mod Numbered
 pub mod Named
 pub mod Apart
-pub mod PacedSteps
-pub mod Agreeing
-pub mod Passing
-pub mod Tracks
 pub mod SingleSteps
 pub mod Places
 pub mod Basic
 pub mod Meaning
 pub mod Transitions
-pub mod Wholes
 pub mod Interfaces
 pub mod Simulation
 pub mod Behaviour

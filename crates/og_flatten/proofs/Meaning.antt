@@ -7,6 +7,7 @@ use Rattle.og_base.specs.declared.Place.{Place}
 use Rattle.og_types.specs.declared.TypeId.{TypeId}
 use Rattle.og_types.specs.declared.Value.{Value}
 use Rattle.og_model.specs.declared.Model.{Model}
+use Rattle.og_model.specs.declared.Body.{Body}
 use Rattle.og_model.specs.declared.Step.{Step}
 use Rattle.og_model.specs.declared.Ending.{Ending}
 use Rattle.og_model.specs.declared.EndKind.TheVariants as Ends
@@ -18,27 +19,17 @@ use Rattle.og_model.specs.declared.StateDef.{StateDef}
 use Rattle.og_model.specs.declared.StateKind.TheOpen as Kinds
 use Rattle.og_model.specs.Shown as Shows
 use Rattle.og_model.specs.Shown.{Event}
-use Rattle.og_model.specs.Units.{State, Done, Out, Ran, Doing, gives, runs_out, after_events, go_on, then_do, or_fault, showing}
+use Rattle.og_model.specs.Units.{State, Ran, Doing, gives, runs_out, go_on, then_do, spend, or_fault, showing}
 use Rattle.og_model.specs.Forms.{is_plain_trigger}
-use Rattle.og_model.specs.Actions.{Setting, Remainder, Next, values_of, sorts_of, act_on, end_with, run}
+use Rattle.og_model.specs.Actions.{Setting, Remainder, Next, in_scope, going_at, values_of, sorts_of, act_on, end_with, run, perform}
 use Rattle.og_model.specs.Configuration.{Active, At, Basic, kind_of, state_at, kind_at, paths_of, paths_under, paths_inside}
 use Rattle.og_model.specs.Choice.{Here, Found, meets, own_handler, found_in, handler_inside, handler_of}
 use Rattle.og_model.specs.Moving.{In, out_of, leave, hook, exit_of, transition, same_point, after, assign_values, enter_kind, enter_by, enter, at_root, fire}
 use Rattle.og_model.specs.Settling.{provided_by, own_continuous, continuous_at, continuous_inside, continuous_of, ordered, first_of, settle_by, settle}
 use Rattle.og_model.specs.Run.{start, step, handled, variables_of}
-use Rattle.og_flatten.specs.FlatCode.{states_of, is_input, handler_in}
+use Rattle.og_flatten.specs.FlatCode.{bodies_of, states_of, steps_of, end_of, is_input, handler_in}
 use Rattle.og_flatten.proofs.Basic.{empty_is, StepIs, StateIs, StartIs}
 use Rattle.og_names.proofs.Truths.{both_first as left_of, both_second as right_of}
-
--- ---- doing one thing after the other
-
--- the second is not done where the first has run out of units
-pub out_first : {A B : Type 0} (first : Doing A) (next : A → Doing B) (n : ℕ) (s : State) → (first n s).outcome ≡ Out → then_do first next n s ≡ record { events = (first n s).events; state = (first n s).state; left = (first n s).left; outcome = Out }
-out_first first next n s out = ap (λ o. go_on o (first n s).events (first n s).left (first n s).state next) out
-
--- the second goes on where the first is done
-pub done_first : {A B : Type 0} (first : Doing A) (next : A → Doing B) (n : ℕ) (s : State) (a : A) → (first n s).outcome ≡ Done a → then_do first next n s ≡ after_events (first n s).events (next a (first n s).left (first n s).state)
-done_first first next n s a done = ap (λ o. go_on o (first n s).events (first n s).left (first n s).state next) done
 
 -- ---- one unit of a body
 
@@ -49,29 +40,34 @@ values_none : (M : Model) (b : Setting) (s : _) (types : List TypeId) → values
 values_none M b s [] = refl
 values_none M b s (t ∷ types) = refl
 
--- an output shows its event
-pub run_output : (M : Model) (b : Setting) (x : Step) (xs : List Step) (end : Option Ending) (n : ℕ) (s : State) (is : StepIs M x) → run (suc n) M b (piece (x ∷ xs) end) (suc n) s ≡ after_events (Shows.Output is.signal [] ∷ []) (run n M b (piece xs end) n s)
-run_output M b x xs end n s is =
-    ap (λ a. act_on (run n M) M b x.place (piece xs end) a n s) is.is
-    ∙ ap (λ v. or_fault x.place v (λ vs. showing (Shows.Output is.signal vs) (run n M b (piece xs end))) n s) (values_none M b s.store (sorts_of M is.signal))
+-- an output costs a unit and shows its event
+pub run_output : (M : Model) (b : Setting) (x : Step) (xs : List Step) (end : Option Ending) (fuel : ℕ) → (is : StepIs M x) → (n : ℕ) (s : State) → run (suc fuel) M b (piece (x ∷ xs) end) n s ≡ spend (showing (Shows.Output is.signal []) (run fuel M b (piece xs end))) n s
+run_output M b x xs end fuel is zero s = refl
+run_output M b x xs end fuel is (suc n) s =
+    ap (λ a. act_on (run fuel M) M b x.place (piece xs end) a n s) is.is
+    ∙ ap (λ v. or_fault x.place v (λ vs. showing (Shows.Output is.signal vs) (run fuel M b (piece xs end))) n s) (values_none M b s.store (sorts_of M is.signal))
 
--- NEXTSTATE ends the body
-pub run_next : (M : Model) (b : Setting) (end : Option Ending) (e : Ending) (k n : ℕ) (s : State) → end ≡ Some e → e.kind ≡ Ends.Next k None → run (suc n) M b (piece [] end) (suc n) s ≡ gives (Next k None) n s
-run_next M b end e k n s is next =
-    ap (λ o. run (suc n) M b (piece [] o) (suc n) s) is
-    ∙ ap (λ kind. end_with (run n M) M b e.place kind n s) next
+-- NEXTSTATE costs one and ends the body
+pub run_next : (M : Model) (b : Setting) (end : Option Ending) (e : Ending) (k fuel : ℕ) → end ≡ Some e → e.kind ≡ Ends.Next k None → (n : ℕ) (s : State) → run (suc fuel) M b (piece [] end) n s ≡ spend (gives (Next k None)) n s
+run_next M b end e k fuel is next zero s = ap (λ o. run (suc fuel) M b (piece [] o) zero s) is
+run_next M b end e k fuel is next (suc n) s =
+    ap (λ o. run (suc fuel) M b (piece [] o) (suc n) s) is
+    ∙ ap (λ kind. end_with (run fuel M) M b e.place kind n s) next
+
+-- a body runs with the units that are there
+pub transition_is : (M : Model) (body : ℕ) (b : Body) (n : ℕ) (s : State) → slice_get (bodies_of M) body ≡ Some b → transition M M.root (Some body) n s ≡ run n M (in_scope (bodies_of M)) (piece (steps_of b) (end_of b)) n s
+transition_is M body b n s at =
+    ap (λ o. going_at (perform M) (in_scope (bodies_of M)) (option_map (λ (x : Body). piece (steps_of x) (end_of x)) o) n s) at
 
 -- ---- states
 
 pub kind_is : (M : Model) (k : ℕ) (d : StateDef) → slice_get (states_of M) k ≡ Some d → StateIs M d → kind_at M.root k ≡ Some Kinds.Basic
 kind_is M k d at is = ap (option_map kind_of) at ∙ ap Some is.kind
 
--- entering a state
-pub enter_zero : (M : Model) (k : ℕ) (s : State) → enter M M.root k None zero s ≡ runs_out zero s
-enter_zero M k s = refl
-
-pub enter_one : (M : Model) (k n : ℕ) (d : StateDef) (s : State) → slice_get (states_of M) k ≡ Some d → StateIs M d → enter M M.root k None (suc n) s ≡ gives (In (At k Basic)) n s
-enter_one M k n d s at is = ap (λ kind. enter_kind M (enter_by n M) M.root k None kind n s) (kind_is M k d at is)
+-- entering a state costs a unit
+pub enter_one : (M : Model) (k : ℕ) (d : StateDef) → slice_get (states_of M) k ≡ Some d → StateIs M d → (n : ℕ) (s : State) → enter M M.root k None n s ≡ spend (gives (In (At k Basic))) n s
+enter_one M k d at is zero s = refl
+enter_one M k d at is (suc n) s = ap (λ kind. enter_kind M (enter_by n M) M.root k None kind n s) (kind_is M k d at is)
 
 -- a state without continuous signals is at rest
 provided_none : (place : Place) (body : ℕ) (t : Trigger) → is_plain_trigger t ≡ true → provided_by place body t ≡ None

@@ -1,8 +1,8 @@
 -- The code of a model of basic states answers the start and each stimulus as the meaning of the model does.
-use Rattle.std.proofs.Common.{◌≡◌, ℕ, zero, suc, ◌+◌, ◌*◌, ◌≤◌, ◌<◌, ℤ, pos, negsuc, Bool, true, false, nat_lt, cond, List, [], ◌∷◌, ◌++◌, map, length, slice_get, Option, Some, None, ◌⊎◌, inl, inr, unwrap_or, refl, sym, ap, subst, ◌∙◌, arith, IsTrue}
+use Rattle.std.proofs.Common.{◌≡◌, ℕ, suc, ◌+◌, ◌*◌, ◌≤◌, ◌<◌, ℤ, pos, negsuc, Bool, true, false, nat_lt, cond, List, [], ◌∷◌, ◌++◌, map, length, slice_get, Option, Some, None, inl, inr, unwrap_or, refl, sym, ap, subst, ◌∙◌, arith, IsTrue}
 use Rattle.std.specs.List.{list_all}
 use Rattle.std.proofs.lemmas.Bool.{false≢true, ltb-true}
-use Rattle.std.proofs.lemmas.Option.{none-some, slice_get_within}
+use Rattle.std.proofs.lemmas.Option.{none-some}
 use Rattle.og_names.specs.declared.NameId.{NameId}
 use Rattle.og_types.specs.declared.Value.{Value}
 use Rattle.og_model.specs.declared.Model.{Model}
@@ -21,35 +21,33 @@ use Rattle.og_model.specs.WellSorted.{is_place}
 use Rattle.og_model.specs.WellFormed.{IsWellFormed}
 use Rattle.og_model.specs.Shown as Shows
 use Rattle.og_model.specs.Shown.{Event, End, Stimulus}
-use Rattle.og_model.specs.Units.{State, Outcome, Done, Ran, gives}
+use Rattle.og_model.specs.Units.{State, Done, Doing, gives}
 use Rattle.og_model.specs.Configuration.{Active, At, Basic, paths_of}
 use Rattle.og_model.specs.Run.{first_state, start, step}
 use Rattle.og_ir.specs.declared.FlatFn.{FlatFn}
-use Rattle.og_ir.specs.declared.Instr.{Instr}
 use Rattle.og_ir.specs.declared.Instr.TheVariants as instr
-use Rattle.og_ir.specs.Arithmetic.{in_64_bits}
 use Rattle.og_ir.specs.Cells.{◌>>=◌, Cells}
 use Rattle.og_ir.specs.FlatSteps.{first_slots, case_of}
-use Rattle.og_ir.specs.Steps.{Config, Running, Over, quiet}
+use Rattle.og_ir.specs.Steps.{Config, Running, quiet}
 use Rattle.og_csubset.specs.Agreement.{is_stimulus, is_sent, are_in}
 use Rattle.og_csubset.specs.Fair.{Fair}
-use Rattle.og_csubset.specs.FlatRun.{slot_names, flat_function_names, flat_machine}
+use Rattle.og_csubset.specs.FlatRun.{slot_names, flat_function_names}
 use Rattle.og_csubset.specs.Kinds.{place_in}
 use Rattle.og_csubset.specs.Interface as interface
 use Rattle.og_csubset.specs.Paced.{Pace, IsPace, paced_size}
 use Rattle.og_csubset.specs.Reads.{Globals, path_of, all_of, values_of, number_named, paths_in, end_of, inputs_set}
 use Rattle.og_ir.specs.Reading.{truth_in}
-use Rattle.og_csubset.specs.Run.{Machine, entered}
-use Rattle.og_flatten.specs.FlatCode.{code_of, transition_function, transition_code, start_function, signal_function, signal_code, signal_end, first_entering, entering_place, end_place, states_of, bodies_of, bodies_code, body_cases, length_of_bodies, entering_code, choice_code, choices_code, choice_cases, is_input, handler_in, start_body, sets, region, chosen, read, is_stopped}
-use Rattle.og_flatten.proofs.Agreeing.{AtRest, AtHalt, AnswersBy, Answers, Ended, RunsOn, Simulates}
-use Rattle.og_flatten.proofs.Passing.{Passed, none_passed, with_place, elsewhere, not_there}
-use Rattle.og_flatten.proofs.Tracks.{begins, ends, runs_on}
-use Rattle.og_flatten.proofs.SingleSteps.{slots_at, step_of, sets_region, sets_chosen, table_of_chosen, table_of_region, not_stopped}
+use Rattle.og_csubset.specs.Run.{entered}
+use Rattle.og_flatten.specs.FlatCode.{code_of, transition_function, transition_code, start_function, signal_function, signal_code, signal_end, first_entering, entering_place, end_place, states_of, bodies_of, bodies_code, body_cases, body_length, length_of_bodies, entering_code, choice_code, choices_code, choice_cases, is_input, handler_in, start_body, sets, region, chosen, read, is_stopped}
+use Rattle.og_follow.specs.Answers.{AtRest, AtHalt, Answers, Simulates}
+use Rattle.og_follow.specs.Carrying.{Standing, only, Places, nowhere, place, either, Apart, Among, Ways, Passes, no_places, behind, before_places, Always, Returned}
+use Rattle.og_follow.proofs.Carrying.{passes_on, passes_then, then_passes, only_passes, passes_wider, ends_at_once, same_doing, same_ways, as_wider}
+use Rattle.og_follow.proofs.Answering.{carried_is_answered}
+use Rattle.og_flatten.proofs.SingleSteps.{slots_at, sets_region, sets_chosen, table_of_chosen, table_of_region, not_stopped}
 use Rattle.og_flatten.proofs.Places.{HasAt, BodyAt, bodies_placed, entering_placed, length_of_all, ChoiceAt, handled_placed, not_handled, has_at}
 use Rattle.og_flatten.proofs.Basic.{body_is, StateIs, state_is, start_is}
 use Rattle.og_flatten.proofs.Meaning.{whole, start_is_whole, step_takes, step_discards, paths_are}
-use Rattle.og_flatten.proofs.Transitions.{frame, Followed, free_at, Ahead, later_ahead, with_ahead, UsedUp}
-use Rattle.og_flatten.proofs.Wholes.{Rested, follows_whole}
+use Rattle.og_flatten.proofs.Transitions.{frame, machine_of, HasNoData, Here, Left, from_to, whole_places, whole_ways, done≢out, coded, goes, returns, carries_whole}
 use Rattle.og_flatten.proofs.Interfaces.{start_placed, SignalAt, signal_at, emits, no_inputs, leaf_of, leaf_at, no_regions, there}
 use Rattle.og_names.proofs.Truths.{both_first as left_of, both_second as right_of, same_value as some_is}
 
@@ -58,9 +56,6 @@ pub record IsBasic (M : Model) : Type 0 where
   pub formed : IsWellFormed M
   pub basic : UsesBasicStatesOnly M
   pub fair : Fair (code_of M) M
-
-abbrev pub machine_of : Model → Machine
-machine_of M = flat_machine in_64_bits (code_of M) M
 
 none_more : (k : ℕ) → 0 + k ≡ k
 none_more k = omega (arith)
@@ -82,45 +77,6 @@ state_placed M k d at =
   where
     place_is : (a b k : ℕ) → a ≡ b → suc a + 2 * k ≡ 1 + b + 2 * k
     place_is a b k e = omega (arith, e)
-
--- ---- a chosen body
-
--- The code has begun, and stands at a choice of a body.
-pub chooses : (M : Model) → IsBasic M → (pace : Pace) → IsPace pace → (first : Config) (n statements : ℕ) (seen : Passed) (r0 x : ℤ) (f p : ℕ) (g : FlatFn) (s : State) (body : ℕ) (origin : Option ℕ) → body < length (bodies_of M)
-    → slice_get (code_of M).functions f ≡ Some g → HasAt g.code p (choice_code body) → (f ≡ 0 → ⊥)
-    → seen f p ≡ false → seen f (p + 1) ≡ false → seen f (p + 1 + 1) ≡ false → Ahead seen 0
-    → Followed M pace first 0 statements [] seen (Running (slots_at r0 x) (frame f p) [])
-    → Rested M pace first 0 n [] (pos body) s (whole M (Some body) origin n s) ⊎ UsedUp M pace first (0 + n) [] (whole M (Some body) origin n s)
-chooses M is pace is_pace first n statements seen r0 x f p g s body origin lt at code other new0 new1 new2 ahead track =
-    let found = there (bodies_of M) body lt in
-    let b = found.0 in
-    let b_is = body_is M is.formed is.basic body b found.1 in
-    let placed = body_placed M body b found.1 in
-    let from = placed.from in
-    let entered = there (states_of M) b_is.state b_is.there in
-    let seen1 = with_place seen f p in
-    let seen2 = with_place seen1 f (p + 1) in
-    let seen3 = with_place seen2 0 0 in
-    let zero_other : 0 ≡ f → ⊥ = λ e. other (sym e) in
-    let ahead2 : Ahead seen2 0 = λ q le. elsewhere seen1 f (p + 1) 0 q zero_other ∙ (elsewhere seen f p 0 q zero_other ∙ ahead q le) in
-    let one = free_at M pace is_pace first 0 statements [] seen (slots_at r0 x) f p [] g (sets chosen (pos body)) (Running (slots_at r0 (pos body)) (frame f (p + 1)) []) track at code.0 new0 (sets_chosen M r0 x (pos body) (frame f p) []) in
-    let two = free_at M pace is_pace first 0 (statements + pace f p) [] seen1 (slots_at r0 (pos body)) f (p + 1) [] g (instr.Call 0) (Running (slots_at r0 (pos body)) (frame 0 0) (frame f (p + 1 + 1) ∷ [])) one at code.1.0
-    (not_there seen f p (p + 1) (λ e. omega (arith, e)) ∙ new1) refl in
-    let three = free_at M pace is_pace first 0 (statements + pace f p + pace f (p + 1)) [] seen2 (slots_at r0 (pos body)) 0 0 (frame f (p + 1 + 1) ∷ []) (transition_function M) (instr.Table (read chosen) (body_cases 0 1 (bodies_of M)) (end_place M)) (Running (slots_at r0 (pos body)) (frame 0 placed.place) (frame f (p + 1 + 1) ∷ [])) two refl refl
-    (ahead2 0 (omega (arith)))
-    (table_of_chosen M r0 (pos body) (frame 0 0) (frame f (p + 1 + 1) ∷ []) (body_cases 0 1 (bodies_of M)) (end_place M)
-    ∙ ap (λ q. quiet (Running (slots_at r0 (pos body)) (frame 0 q) (frame f (p + 1 + 1) ∷ []))) (placed.leads (end_place M))) in
-    follows_whole M pace is_pace (emits M is.basic is.fair) first 0 n (statements + pace f p + pace f (p + 1) + pace 0 0) [] seen3 r0 (pos body) f (p + 1 + 1) placed.place s body b origin
-    found.1 b_is entered.0 entered.1 (state_is M is.formed is.basic b_is.state entered.0 entered.1) placed.code_there placed.to (state_placed M b_is.state entered.0 entered.1)
-    (record {
-      function = g;
-      at = at;
-      back = code.1.1.0;
-      other = other;
-      new = elsewhere seen2 0 0 f (p + 1 + 1) other
-          ∙ (not_there seen1 f (p + 1) (p + 1 + 1) (λ e. omega (arith, e)) ∙ (not_there seen f p (p + 1 + 1) (λ e. omega (arith, e)) ∙ new2));
-    })
-    three (later_ahead seen3 (0 + 1) placed.place (omega (arith, from)) (with_ahead seen2 0 ahead2))
 
 -- ---- slots at rest
 
@@ -173,41 +129,157 @@ shows_rest M is k d x at =
     ∙ ap (λ ts. unwrap_or (rest_by M (record { names = slot_names (code_of M); cells = slots_at (pos k) x }) (process M ∷ []) [] ts) (Shows.Stuck stuck.Value)) is.basic.no_timers
     ∙ ap (λ o. unwrap_or (((o >>= λ leaf. Some (path_of (process M) leaf)) >>= λ here. Some (here ++ [])) >>= λ paths. Some (Shows.Rest paths [] [])) (Shows.Stuck stuck.Value)) (leaves_are M is k d at)
 
+-- ---- the places of a transition
+
+-- before the choice the code passes places of its function from its beginning on
+abbrev before_choice : ℕ → ℕ → Places
+before_choice f p = from_to f 0 p
+
+-- the choice, the call and the table
+abbrev at_choice : ℕ → ℕ → Places
+at_choice f p = either (either (place f p) (place f (p + 1))) (place 0 0)
+
+-- the last return of `transition`, and that of its caller
+abbrev at_returns : ℕ → ℕ → ℕ → Places
+at_returns e f p = either (place 0 (e + 1)) (place f p)
+
+-- ---- places that lie apart
+
+-- carried out from where it stands to its return
+pub record Answered (M : Model) (pace : Pace) (is_pace : IsPace pace) (before : Standing) (d : Doing Active) : Type 1 where
+  pub ways : Ways
+  pub carries : Always (coded M pace is_pace) d before (Returned (Rests M) Halts (machine_of M)) ways
+
+choice_apart : (f p : ℕ) → (f ≡ 0 → ⊥) → Apart (at_choice f p) (before_choice f p)
+choice_apart f p other g q (inl (inl x)) y = let a = x.1 in let b = y.2 in omega (arith, a, b)
+choice_apart f p other g q (inl (inr x)) y = let a = x.1 in let b = y.2 in omega (arith, a, b)
+choice_apart f p other g q (inr x) y = other (sym y.0 ∙ x.0)
+
+returns_apart : (e f p : ℕ) → (f ≡ 0 → ⊥) → Apart (place f p) (place 0 (e + 1))
+returns_apart e f p other g q x y = other (sym x.0 ∙ y.0)
+
+-- the returns stand behind the code that enters the state
+behind_whole : (e f p a b : ℕ) → (f ≡ 0 → ⊥) → b ≤ e → Apart (at_returns e f p) (whole_places a b e)
+behind_whole e f p a b other le g q (inl x) (inl y) = let i = x.1 in let j = y.2 in omega (arith, i, j, le)
+behind_whole e f p a b other le g q (inl x) (inr y) = let i = x.1 in let j = y.1 in omega (arith, i, j)
+behind_whole e f p a b other le g q (inr x) (inl y) = other (sym x.0 ∙ y.0)
+behind_whole e f p a b other le g q (inr x) (inr y) = other (sym x.0 ∙ y.0)
+
+-- nothing of the transition was passed before it
+new_place : (e f p : ℕ) → (f ≡ 0 → ⊥) → Apart (at_returns e f (p + 1 + 1)) (either (before_choice f p) (at_choice f p))
+new_place e f p other g q (inl x) (inl y) = other (sym y.0 ∙ x.0)
+new_place e f p other g q (inl x) (inr (inl (inl y))) = other (sym y.0 ∙ x.0)
+new_place e f p other g q (inl x) (inr (inl (inr y))) = other (sym y.0 ∙ x.0)
+new_place e f p other g q (inl x) (inr (inr y)) = let i = x.1 in let j = y.1 in omega (arith, i, j)
+new_place e f p other g q (inr x) (inl y) = let i = x.1 in let j = y.2 in omega (arith, i, j)
+new_place e f p other g q (inr x) (inr (inl (inl y))) = let i = x.1 in let j = y.1 in omega (arith, i, j)
+new_place e f p other g q (inr x) (inr (inl (inr y))) = let i = x.1 in let j = y.1 in omega (arith, i, j)
+new_place e f p other g q (inr x) (inr (inr y)) = other (sym x.0 ∙ y.0)
+
+returns_new : (e f p : ℕ) → (f ≡ 0 → ⊥) → Apart (either nowhere (at_returns e f (p + 1 + 1))) (either (before_choice f p) (at_choice f p))
+returns_new e f p other g q (inl x) y = x
+returns_new e f p other g q (inr x) y = new_place e f p other g q x y
+
+body_new : (f p a q : ℕ) → (f ≡ 0 → ⊥) → 1 ≤ a → a ≤ q → either (before_choice f p) (at_choice f p) 0 q → ⊥
+body_new f p a q other from le (inl y) = other (sym y.0)
+body_new f p a q other from le (inr (inl (inl y))) = other (sym y.0)
+body_new f p a q other from le (inr (inl (inr y))) = other (sym y.0)
+body_new f p a q other from le (inr (inr y)) = let j = y.1 in omega (arith, j, from, le)
+
+whole_new : (e f p a b : ℕ) → (f ≡ 0 → ⊥) → 1 ≤ a → 1 ≤ e → Apart (either (whole_places a b e) (at_returns e f (p + 1 + 1))) (either (before_choice f p) (at_choice f p))
+whole_new e f p a b other from some g q (inl (inl x)) y = body_new f p a q other from x.1 (subst (λ h. either (before_choice f p) (at_choice f p) h q) x.0 y)
+whole_new e f p a b other from some g q (inl (inr x)) y = let i = x.1 in body_new f p e q other some (omega (arith, i)) (subst (λ h. either (before_choice f p) (at_choice f p) h q) x.0 y)
+whole_new e f p a b other from some g q (inr x) y = new_place e f p other g q x y
+
+-- ---- a chosen body
+
+-- the code stands at a choice, and then at the body
+choice_passes : (M : Model) (pace : Pace) (is_pace : IsPace pace) (r x : ℤ) (f p : ℕ) (g : FlatFn) (body : ℕ) (b : Body) → (placed : BodyAt (first_entering M) (end_place M) (transition_code M) (body_cases 0 1 (bodies_of M)) 1 (first_entering M) body b) → slice_get (code_of M).functions f ≡ Some g → HasAt g.code p (choice_code body) → (f ≡ 0 → ⊥)
+    → Passes (coded M pace is_pace) (Here r x f p []) [] (Here r (pos body) 0 placed.place (frame f (p + 1 + 1) ∷ [])) (at_choice f p)
+choice_passes M pace is_pace r x f p g body b placed at code other =
+    let y = pos body in
+    let back = frame f (p + 1 + 1) ∷ [] in
+    passes_on (coded M pace is_pace) (Here r x f p []) [] (Here r y 0 0 back) [] (Here r y 0 placed.place back) (either (place f p) (place f (p + 1))) (place 0 0)
+    (passes_on (coded M pace is_pace) (Here r x f p []) [] (Here r y f (p + 1) []) [] (Here r y 0 0 back) (place f p) (place f (p + 1))
+    (goes M pace is_pace r x f p [] r y f (p + 1) [] g (sets chosen y) at code.0 (sets_chosen M r x y (frame f p) []))
+    (goes M pace is_pace r y f (p + 1) [] r y 0 0 back g (instr.Call 0) at code.1.0 refl)
+    second_apart)
+    (goes M pace is_pace r y 0 0 back r y 0 placed.place back (transition_function M) (instr.Table (read chosen) (body_cases 0 1 (bodies_of M)) (end_place M)) refl refl
+    (table_of_chosen M r y (frame 0 0) back (body_cases 0 1 (bodies_of M)) (end_place M)
+    ∙ ap (λ q. quiet (Running (slots_at r y) (frame 0 q) back)) (placed.leads (end_place M))))
+    third_apart
+  where
+    second_apart : Apart (place f (p + 1)) (place f p)
+    second_apart g q x y = let a = x.1 in let b = y.1 in omega (arith, a, b)
+
+    third_apart : Apart (place 0 0) (either (place f p) (place f (p + 1)))
+    third_apart g q x (inl y) = other (sym y.0 ∙ x.0)
+    third_apart g q x (inr y) = other (sym y.0 ∙ x.0)
+
+abbrev chosen_ways : ℕ → ℕ → ℕ → ℕ → ℕ → Ways
+chosen_ways f p a b e = behind (either (before_choice f p) (at_choice f p)) (before_places (whole_ways a b e) (at_returns e f (p + 1 + 1)))
+
+-- From the function's first place the code passes to the choice of a body, carries out the transition, and returns.
+pub chooses : (M : Model) → IsBasic M → (pace : Pace) (is_pace : IsPace pace) (r x : ℤ) (f p : ℕ) (g : FlatFn) (body : ℕ) (origin : Option ℕ) → body < length (bodies_of M)
+    → slice_get (code_of M).functions f ≡ Some g → HasAt g.code p (choice_code body) → (f ≡ 0 → ⊥)
+    → (before : Standing) → Passes (coded M pace is_pace) before [] (Here r x f p []) (before_choice f p)
+    → Answered M pace is_pace before (whole M (Some body) origin)
+chooses M is pace is_pace r x f p g body origin lt at code other before passes =
+    let code_of_it = coded M pace is_pace in
+    let found = there (bodies_of M) body lt in
+    let b = found.0 in
+    let b_is = body_is M is.formed is.basic body b found.1 in
+    let placed = body_placed M body b found.1 in
+    let k = b_is.state in
+    let entered = there (states_of M) k b_is.there in
+    let e = entering_place M k in
+    let entering = state_placed M k entered.0 entered.1 in
+    let y = pos body in
+    let back = frame f (p + 1 + 1) ∷ [] in
+    let a = placed.place in
+    let end = a + body_length b in
+    let Z = at_returns e f (p + 1 + 1) in
+    let from = placed.from in
+    let to = placed.to in
+    let rest : (s : State) (now : Config) → Left (pos k) y s now → Returned (Rests M) Halts (machine_of M) (Done (At k Basic)) s now = λ s now left. (
+      slots_at (pos k) y,
+      left.is,
+      record {
+        state = k;
+        def = entered.0;
+        x = y;
+        is = refl;
+        there = entered.1;
+        holds = refl;
+        variables = left.bare.variables;
+        timers = left.bare.timers;
+      },
+    ) in
+    record {
+      ways = chosen_ways f p a end e;
+      carries = λ fuel.
+          let whole_one : Doing Active = whole M (Some body) origin in
+          as_wider code_of_it fuel fuel whole_one before before (only (Done (At k Basic)) (Left (pos k) y)) (Returned (Rests M) Halts (machine_of M)) (chosen_ways f p a end e) (chosen_ways f p a end e) (omega (arith)) (λ s now h. h) (λ o s now h. subst (λ o. Returned (Rests M) Halts (machine_of M) o s now) (sym h.0) (rest s now h.1)) (same_ways (chosen_ways f p a end e))
+          (passes_then code_of_it fuel whole_one before [] (Here r y 0 a back) (only (Done (At k Basic)) (Left (pos k) y)) (either (before_choice f p) (at_choice f p)) (before_places (whole_ways a end e) Z)
+          (passes_on code_of_it before [] (Here r x f p []) [] (Here r y 0 a back) (before_choice f p) (at_choice f p) passes
+          (choice_passes M pace is_pace r x f p g body b placed at code other) (choice_apart f p other))
+          (then_passes code_of_it fuel whole_one (Here r y 0 a back) (only (Done (At k Basic)) (Here (pos k) y 0 (e + 1) back)) (only (Done (At k Basic)) (Left (pos k) y)) Z (whole_ways a end e)
+          (carries_whole M pace is_pace (emits M is.basic is.fair) r y back a body b origin found.1 b_is entered.0 entered.1 (state_is M is.formed is.basic k entered.0 entered.1) placed.code_there entering fuel)
+          (only_passes code_of_it (Done (At k Basic)) (Here (pos k) y 0 (e + 1) back) (Left (pos k) y) Z
+          (passes_on code_of_it (Here (pos k) y 0 (e + 1) back) [] (Here (pos k) y f (p + 1 + 1) []) [] (Left (pos k) y) (place 0 (e + 1)) (place f (p + 1 + 1))
+          (goes M pace is_pace (pos k) y 0 (e + 1) back (pos k) y f (p + 1 + 1) [] (transition_function M) instr.Back refl entering.1.0 refl)
+          (returns M pace is_pace (pos k) y f (p + 1 + 1) g at code.1.1.0)
+          (returns_apart e f (p + 1 + 1) other)))
+          (λ h q u v. v) (behind_whole e f (p + 1 + 1) a end other (omega (arith, to))) (behind_whole e f (p + 1 + 1) a end other (omega (arith, to))))
+          (returns_new e f p other) (whole_new e f p a end other from (omega (arith))));
+    }
+
 -- ---- answers
 
--- an answer by what it has come to
-answers_by : (M : Model) (pace : Pace) (config : Config) (n : ℕ) (r : Ran Active) (o : Outcome Active) (s : State) → r.outcome ≡ o → r.state ≡ s → AnswersBy (Rests M) Halts (machine_of M) pace (paced_size pace (code_of M)) config n o r.events s → Answers (Rests M) Halts (machine_of M) pace (paced_size pace (code_of M)) config n r
-answers_by M pace config n r o s is same h =
-    rw is (rw same h)
-
--- a process without data
-pub record HasNoData (s : State) : Type 0 where
-  pub variables : s.store.variables ≡ []
-  pub timers : s.timers ≡ []
-
-answers : (M : Model) → IsBasic M → (pace : Pace) (config : Config) (n : ℕ) (x : ℤ) (s : State) (r : Ran Active) → HasNoData s → Rested M pace config 0 n [] x s r ⊎ UsedUp M pace config (0 + n) [] r → Answers (Rests M) Halts (machine_of M) pace (paced_size pace (code_of M)) config n r
-answers M is pace config n x s r data' (inl rested) =
-    let counts = rested.counts in
-    let found = there (states_of M) rested.state rested.there in
-    answers_by M pace config n r (Done (At rested.state Basic)) s rested.outcome rested.same (
-      slots_at (pos rested.state) x,
-      subst (λ es. Ended (machine_of M) pace (paced_size pace (code_of M)) config n es (slots_at (pos rested.state) x)) rested.shown
-          (ends (machine_of M) pace (code_of M) config rested.taken rested.statements n rested.events rested.later (slots_at (pos rested.state) x) rested.track (omega (arith, counts))),
-      record {
-        state = rested.state;
-        def = found.0;
-        x = x;
-        is = refl;
-        there = found.1;
-        holds = refl;
-        variables = data'.variables;
-        timers = data'.timers;
-      },
-    )
-answers M is pace config n x s r data' (inr used) =
-    rw used.out
-    (subst (λ es. RunsOn (machine_of M) pace (paced_size pace (code_of M)) config n es) used.shown
-    (runs_on (machine_of M) pace (code_of M) config (0 + n) used.statements n used.events used.seen used.slots used.at used.callers used.track (none_more n)))
+-- what is carried out from here is answered
+answers : (M : Model) (pace : Pace) (is_pace : IsPace pace) (config : Config) (d : Doing Active) (n : ℕ) (s : State) (before : Standing) → before s config → Answered M pace is_pace before d → Answers (Rests M) Halts (machine_of M) pace (paced_size pace (code_of M)) config n (d n s)
+answers M pace is_pace config d n s before at answered =
+    carried_is_answered (Rests M) Halts (machine_of M) pace is_pace (code_of M) config d n s before answered.ways at (answered.carries n)
 
 -- ---- the start
 
@@ -217,14 +289,23 @@ starts M is pace is_pace n =
     let first = slots_at (pos 0) (pos 0) in
     let config : Config = Running first (frame 1 0) [] in
     let begun_is : (machine_of M).begin None (first_slots M.types (code_of M)) ≡ config = ap (λ o. entered o first) (start_placed M is.fair) in
-    let one = free_at M pace is_pace config 0 0 [] none_passed first 1 0 [] (start_function M) (sets region (negsuc 0)) (Running (slots_at (negsuc 0) (pos 0)) (frame 1 1) []) (begins (step_of M) pace (code_of M) config) refl refl refl (sets_region M (pos 0) (pos 0) (negsuc 0) (frame 1 0) []) in
+    let before = Here (pos 0) (pos 0) 1 0 [] in
     subst (λ c. Answers (Rests M) Halts (machine_of M) pace (paced_size pace (code_of M)) c n (start M n (first_state M))) (sym begun_is)
     (subst (λ d. Answers (Rests M) Halts (machine_of M) pace (paced_size pace (code_of M)) config n (d n (first_state M))) (sym (start_is_whole M st))
-    (answers M is pace config n (pos st.start.body) (first_state M) (whole M (Some st.start.body) None n (first_state M)) (record {
-      variables = ap (map (λ (v : Variable). v.initial)) is.basic.no_variables;
-      timers = ap (map (λ (t : NameId). false)) is.basic.no_timers;
+    (answers M pace is_pace config (whole M (Some st.start.body) None) n (first_state M) before
+    (record {
+      is = refl;
+      bare = record {
+        variables = ap (map (λ (v : Variable). v.initial)) is.basic.no_variables;
+        timers = ap (map (λ (t : NameId). false)) is.basic.no_timers;
+      };
     })
-    (chooses M is pace is_pace config n (0 + pace 1 0) (with_place none_passed 1 0) (negsuc 0) (pos 0) 1 1 (start_function M) (first_state M) st.start.body None st.there refl (ap (λ starts. Some (sets chosen (pos (start_body starts)))) st.is, (refl, (refl, tt))) (λ e. omega (arith, e)) refl refl refl (λ q le. refl) one)))
+    (chooses M is pace is_pace (negsuc 0) (pos 0) 1 1 (start_function M) st.start.body None st.there refl (ap (λ starts. Some (sets chosen (pos (start_body starts)))) st.is, (refl, (refl, tt))) (λ e. omega (arith, e)) before
+    (passes_wider (coded M pace is_pace) before before [] (Here (negsuc 0) (pos 0) 1 1 []) (Here (negsuc 0) (pos 0) 1 1 []) (place 1 0) (before_choice 1 1) (λ s now h. h) (λ s now h. h) among
+    (goes M pace is_pace (pos 0) (pos 0) 1 0 [] (negsuc 0) (pos 0) 1 1 [] (start_function M) (sets region (negsuc 0)) refl refl (sets_region M (pos 0) (pos 0) (negsuc 0) (frame 1 0) []))))))
+  where
+    among : Among (place 1 0) (before_choice 1 1)
+    among f q x = let e = x.1 in (x.0, omega (arith, e), omega (arith, e))
 
 -- ---- stimuli
 
@@ -268,72 +349,91 @@ end_placed M k =
     two_more : (n : ℕ) → 2 + n ≡ suc (suc n)
     two_more n = omega (arith)
 
--- the places of a signal's function that were passed before its choices
-abbrev entered_at : ℕ → Passed
-entered_at f = with_place (with_place none_passed f 0) f 1
-
-new_from_two : (f q : ℕ) → 2 ≤ q → entered_at f f q ≡ false
-new_from_two f q le =
-    not_there (with_place none_passed f 0) f 1 q (λ e. omega (arith, e, le)) ∙ not_there none_passed f 0 q (λ e. omega (arith, e, le))
-
--- what the table of a signal leads to
-takes_by : (M : Model) → IsBasic M → (pace : Pace) → IsPace pace → (k : ℕ) (vs : List Value) (sent : IsSent M k vs) (placed : SignalAt M k sent.signal) (st : ℕ) (d : StateDef) (x : ℤ) (s : State) → slice_get (states_of M) st ≡ Some d → StateIs M d → HasNoData s → (n statements : ℕ) (config : Config)
-    → Followed M pace config 0 statements [] (entered_at placed.function) (Running (slots_at (pos st) x) (frame placed.function (case_of (pos st) (choice_cases k 0 2 (states_of M)) (signal_end M k))) [])
-    → (o : Option Handler) → handler_in k d.handlers ≡ o
-    → Answers (Rests M) Halts (machine_of M) pace (paced_size pace (code_of M)) config n (step M (At st Basic) (Shows.Signal k vs) n s)
-takes_by M is pace is_pace k vs sent placed st d x s at st_is data' n statements config track None none =
+-- from the beginning of a signal's function to where its table leads
+signal_passes : (M : Model) → IsBasic M → (pace : Pace) (is_pace : IsPace pace) (k : ℕ) (signal : Signals.Signal) (placed : SignalAt M k signal) (r x : ℤ) (to : ℕ) → case_of r (choice_cases k 0 2 (states_of M)) (signal_end M k) ≡ to → 2 ≤ to
+    → Passes (coded M pace is_pace) (Here r x placed.function 0 []) [] (Here r x placed.function to []) (before_choice placed.function to)
+signal_passes M is pace is_pace k signal placed r x to leads le =
     let f = placed.function in
-    let slots = slots_at (pos st) x in
-    let to : case_of (pos st) (choice_cases k 0 2 (states_of M)) (signal_end M k) ≡ signal_end M k =
-    ap (λ m. case_of (pos m) (choice_cases k 0 2 (states_of M)) (signal_end M k)) (sym (none_more st))
-    ∙ not_handled k 0 st 2 (states_of M) d (signal_end M k) at none in
-    let here = subst (λ p. Followed M pace config 0 statements [] (entered_at f) (Running slots (frame f p) [])) to track in
-    let over = free_at M pace is_pace config 0 statements [] (entered_at f) slots f (signal_end M k) [] (signal_function M k sent.signal) instr.Back (Over slots) here placed.at (end_placed M k) (new_from_two f (signal_end M k) (omega (arith))) refl in
-    subst (λ r. Answers (Rests M) Halts (machine_of M) pace (paced_size pace (code_of M)) config n r) (sym (step_discards M st d k vs n s at st_is none))
-    (answers M is pace config n x s (gives (At st Basic) n s) data'
-    (inl (record {
-      state = st;
-      there = slice_get_within (states_of M) st d at;
-      taken = 0;
-      statements = statements + pace f (signal_end M k);
-      events = [];
-      later = with_place (entered_at f) f (signal_end M k);
-      track = over;
-      shown = refl;
-      counts = refl;
-      outcome = refl;
-      same = refl;
-    })))
-takes_by M is pace is_pace k vs sent placed st d x s at st_is data' n statements config track (Some h) has =
+    let g = signal_function M k signal in
+    let slots = slots_at r x in
+    passes_wider (coded M pace is_pace) (Here r x f 0 []) (Here r x f 0 []) [] (Here r x f to []) (Here r x f to []) (either (place f 0) (place f 1)) (before_choice f to) (λ s now h. h) (λ s now h. h) among
+    (passes_on (coded M pace is_pace) (Here r x f 0 []) [] (Here r x f 1 []) [] (Here r x f to []) (place f 0) (place f 1)
+    (goes M pace is_pace r x f 0 [] r x f 1 [] g (instr.Branch is_stopped (signal_end M k)) placed.at refl (not_stopped M r x (frame f 0) [] (signal_end M k)))
+    (goes M pace is_pace r x f 1 [] r x f to [] g (instr.Table (read region) (choice_cases k 0 2 (states_of M)) (signal_end M k)) placed.at refl
+    (table_of_region M r x (frame f 1) [] (choice_cases k 0 2 (states_of M)) (signal_end M k) ∙ ap (λ q. quiet (Running slots (frame f q) [])) leads))
+    apart)
+  where
+    among : Among (either (place placed.function 0) (place placed.function 1)) (before_choice placed.function to)
+    among f q (inl x) = let e = x.1 in (x.0, omega (arith, e), omega (arith, e, le))
+    among f q (inr x) = let e = x.1 in (x.0, omega (arith, e), omega (arith, e, le))
+
+    apart : Apart (place placed.function 1) (place placed.function 0)
+    apart f q x y = let a = x.1 in let b = y.1 in omega (arith, a, b)
+
+-- what a state does with the signal
+takes_by : (M : Model) → IsBasic M → (pace : Pace) (is_pace : IsPace pace) (k : ℕ) (vs : List Value) (sent : IsSent M k vs) (placed : SignalAt M k sent.signal) (st : ℕ) (d : StateDef) (x : ℤ) → slice_get (states_of M) st ≡ Some d → StateIs M d
+    → (o : Option Handler) → handler_in k d.handlers ≡ o → Answered M pace is_pace (Here (pos st) x placed.function 0 []) (step M (At st Basic) (Shows.Signal k vs))
+takes_by M is pace is_pace k vs sent placed st d x at st_is None none =
     let f = placed.function in
-    let slots = slots_at (pos st) x in
+    let before = Here (pos st) x f 0 [] in
+    let last = signal_end M k in
+    let to : case_of (pos st) (choice_cases k 0 2 (states_of M)) last ≡ last =
+    ap (λ m. case_of (pos m) (choice_cases k 0 2 (states_of M)) last) (sym (none_more st))
+    ∙ not_handled k 0 st 2 (states_of M) d last at none in
+    let X = either (before_choice f last) (place f last) in
+    let rest : (s : State) (now : Config) → Left (pos st) x s now → Returned (Rests M) Halts (machine_of M) (Done (At st Basic)) s now = λ s now left. (
+      slots_at (pos st) x,
+      left.is,
+      record {
+        state = st;
+        def = d;
+        x = x;
+        is = refl;
+        there = at;
+        holds = refl;
+        variables = left.bare.variables;
+        timers = left.bare.timers;
+      },
+    ) in
+    record {
+      ways = behind X no_places;
+      carries = λ fuel.
+          same_doing (coded M pace is_pace) fuel (gives (At st Basic)) (step M (At st Basic) (Shows.Signal k vs)) before (Returned (Rests M) Halts (machine_of M)) (behind X no_places) (λ n s. step_discards M st d k vs n s at st_is none)
+          (passes_then (coded M pace is_pace) fuel (gives (At st Basic)) before [] (Left (pos st) x) (Returned (Rests M) Halts (machine_of M)) X no_places
+          (passes_on (coded M pace is_pace) before [] (Here (pos st) x f last []) [] (Left (pos st) x) (before_choice f last) (place f last)
+          (signal_passes M is pace is_pace k sent.signal placed (pos st) x last to (omega (arith)))
+          (returns M pace is_pace (pos st) x f last (signal_function M k sent.signal) placed.at (end_placed M k))
+          (last_apart f last))
+          (ends_at_once (coded M pace is_pace) fuel (Done (At st Basic)) (Left (pos st) x) (Returned (Rests M) Halts (machine_of M)) no_places (done≢out (At st Basic)) (omega (arith)) rest)
+          (λ g q u v. u) (λ g q u v. u));
+    }
+  where
+    last_apart : (f p : ℕ) → Apart (place f p) (before_choice f p)
+    last_apart f p g q x y = let a = x.1 in let b = y.2 in omega (arith, a, b)
+takes_by M is pace is_pace k vs sent placed st d x at st_is (Some h) has =
+    let f = placed.function in
+    let before = Here (pos st) x f 0 [] in
     let choice = choice_placed M k st d h at has in
-    let from = choice.from in
     let facts = handler_there M d.handlers k h st_is.inputs st_is.bodies has in
-    let here = subst (λ p. Followed M pace config 0 statements [] (entered_at f) (Running slots (frame f p) [])) (choice.leads (signal_end M k)) track in
-    subst (λ r. Answers (Rests M) Halts (machine_of M) pace (paced_size pace (code_of M)) config n r) (sym (step_takes M st d k vs n s h at st_is has facts.0))
-    (answers M is pace config n (pos h.body) s (whole M (Some h.body) (Some st) n s) data'
-    (chooses M is pace is_pace config n statements (entered_at f) (pos st) x f choice.place (signal_function M k sent.signal) s h.body (Some st) facts.1 placed.at choice.code_there placed.other
-    (new_from_two f choice.place from) (new_from_two f (choice.place + 1) (omega (arith, from))) (new_from_two f (choice.place + 1 + 1) (omega (arith, from)))
-    (λ q le. elsewhere (with_place none_passed f 0) f 1 0 q (λ e. placed.other (sym e)) ∙ elsewhere none_passed f 0 0 q (λ e. placed.other (sym e)))
-    here))
+    let taken = chooses M is pace is_pace (pos st) x f choice.place (signal_function M k sent.signal) h.body (Some st) facts.1 placed.at choice.code_there placed.other before
+    (signal_passes M is pace is_pace k sent.signal placed (pos st) x choice.place (choice.leads (signal_end M k)) choice.from) in
+    record {
+      ways = taken.ways;
+      carries = λ fuel.
+          same_doing (coded M pace is_pace) fuel (whole M (Some h.body) (Some st)) (step M (At st Basic) (Shows.Signal k vs)) before (Returned (Rests M) Halts (machine_of M)) taken.ways (λ n s. step_takes M st d k vs n s h at st_is has facts.0) (taken.carries fuel);
+    }
 
 takes_signal : (M : Model) → IsBasic M → (pace : Pace) → IsPace pace → (k : ℕ) (vs : List Value) → IsSent M k vs → (st : ℕ) (d : StateDef) (x : ℤ) (s : State) → slice_get (states_of M) st ≡ Some d → HasNoData s → (n : ℕ) → Answers (Rests M) Halts (machine_of M) pace (paced_size pace (code_of M)) ((machine_of M).begin (Some (Shows.Signal k vs)) (slots_at (pos st) x)) n (step M (At st Basic) (Shows.Signal k vs) n s)
-takes_signal M is pace is_pace k vs sent st d x s at data' n =
+takes_signal M is pace is_pace k vs sent st d x s at bare n =
     let placed = signal_at M is.fair k sent.signal sent.at sent.incoming in
-    let f = placed.function in
-    let g = signal_function M k sent.signal in
     let slots = slots_at (pos st) x in
-    let config : Config = Running slots (frame f 0) [] in
+    let config : Config = Running slots (frame placed.function 0) [] in
     let begun_is : (machine_of M).begin (Some (Shows.Signal k vs)) slots ≡ config =
     ap (λ fields. entered (place_in (interface.signal_function M k) (flat_function_names (code_of M))) (inputs_set M (slot_names (code_of M)) fields vs slots)) (no_inputs M is.basic k sent.signal sent.at)
     ∙ ap (λ o. entered o slots) placed.placed in
-    let seen1 = with_place none_passed f 0 in
-    let one = free_at M pace is_pace config 0 0 [] none_passed slots f 0 [] g (instr.Branch is_stopped (signal_end M k)) (Running slots (frame f 1) []) (begins (step_of M) pace (code_of M) config) placed.at refl refl (not_stopped M (pos st) x (frame f 0) [] (signal_end M k)) in
-    let to = case_of (pos st) (choice_cases k 0 2 (states_of M)) (signal_end M k) in
-    let two = free_at M pace is_pace config 0 (0 + pace f 0) [] seen1 slots f 1 [] g (instr.Table (read region) (choice_cases k 0 2 (states_of M)) (signal_end M k)) (Running slots (frame f to) []) one placed.at refl (not_there none_passed f 0 1 (λ e. omega (arith, e))) (table_of_region M (pos st) x (frame f 1) [] (choice_cases k 0 2 (states_of M)) (signal_end M k)) in
     subst (λ c. Answers (Rests M) Halts (machine_of M) pace (paced_size pace (code_of M)) c n (step M (At st Basic) (Shows.Signal k vs) n s)) (sym begun_is)
-    (takes_by M is pace is_pace k vs sent placed st d x s at (state_is M is.formed is.basic st d at) data' n (0 + pace f 0 + pace f 1) config two (handler_in k d.handlers) refl)
+    (answers M pace is_pace config (step M (At st Basic) (Shows.Signal k vs)) n s (Here (pos st) x placed.function 0 []) (record { is = refl; bare = bare })
+    (takes_by M is pace is_pace k vs sent placed st d x at (state_is M is.formed is.basic st d at) (handler_in k d.handlers) refl))
 
 -- no timer expires, since there is none
 takes : (M : Model) → IsBasic M → (pace : Pace) → IsPace pace → (a : Active) (s : State) (slots : List Cells) → Rests M a s slots → (x : Stimulus) → IsTrue (is_stimulus M x) → (n : ℕ) → Answers (Rests M) Halts (machine_of M) pace (paced_size pace (code_of M)) ((machine_of M).begin (Some x) slots) n (step M a x n s)

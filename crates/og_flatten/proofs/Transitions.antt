@@ -1,200 +1,267 @@
--- The code of a transition is followed from the first instruction of its body to its return: each unit of the meaning has an
--- instruction of its own, and where the units do not suffice the code has shown as much and runs on.
-use Rattle.std.proofs.Common.{◌≡◌, ℕ, zero, suc, ◌+◌, ◌≤◌, ◌<◌, false, List, [], ◌∷◌, ◌++◌, map, length, slice_get, Option, Some, None, ◌⊎◌, inl, inr, refl, sym, ap, subst, ◌∙◌, arith}
-use Rattle.std.proofs.lemmas.List.{append_assoc, append-nil}
+-- Code carries out a transition of basic states, from the first instruction of its body to the one that enters its next state.
+use Rattle.std.proofs.Common.{◌≡◌, ℕ, zero, suc, ◌+◌, ◌≤◌, ◌<◌, ℤ, pos, Bool, true, false, List, [], ◌∷◌, ◌++◌, map, length, slice_get, Option, Some, None, inl, inr, refl, sym, ap, ◌∙◌, arith}
+use Rattle.std.proofs.lemmas.Bool.{false≢true}
 use Rattle.std.proofs.lemmas.Option.{slice_get_within}
 use Rattle.og_model.specs.declared.Model.{Model}
+use Rattle.og_model.specs.declared.Body.{Body}
+use Rattle.og_model.specs.declared.StateDef.{StateDef}
 use Rattle.og_model.specs.declared.Step.{Step}
 use Rattle.og_model.specs.declared.Ending.{Ending}
 use Rattle.og_model.specs.declared.EndKind.TheVariants as Ends
 use Rattle.og_model.specs.Shown as Shows
 use Rattle.og_model.specs.Shown.{Event}
-use Rattle.og_model.specs.Units.{State, Done, Out, Ran, after_events}
-use Rattle.og_model.specs.Actions.{Setting, Ended, Next, run}
+use Rattle.og_model.specs.Units.{State, Outcome, Done, Out, Doing, gives, then_do, spend}
+use Rattle.og_model.specs.Actions.{Setting, Ended, Next, in_scope, run}
+use Rattle.og_model.specs.Configuration.{Active, At, Basic}
+use Rattle.og_model.specs.Moving.{Arrival, In, transition, after, enter, at_root}
+use Rattle.og_model.specs.Settling.{settle}
 use Rattle.og_ir.specs.declared.FlatFn.{FlatFn}
 use Rattle.og_ir.specs.declared.Instr.{Instr}
 use Rattle.og_ir.specs.declared.Instr.TheVariants as instr
+use Rattle.og_ir.specs.Arithmetic.{in_64_bits}
 use Rattle.og_ir.specs.Cells.{Cells}
-use Rattle.og_ir.specs.Steps.{Frame, Config, Running, quiet, jumped, showing}
-use Rattle.og_csubset.specs.FlatRun.{flat_event}
+use Rattle.og_ir.specs.Steps.{Frame, Config, Running, Over, quiet, jumped, showing}
+use Rattle.og_csubset.specs.FlatRun.{flat_event, flat_machine}
 use Rattle.og_csubset.specs.Paced.{Pace, IsPace}
-use Rattle.og_flatten.specs.FlatCode.{code_of, transition_function, transition_code, first_entering, entering_place, end_place, action_at, step_at, kind_at, ending_at}
-use Rattle.og_flatten.proofs.Passing.{Passed, none_passed, with_place, elsewhere, not_there}
-use Rattle.og_flatten.proofs.Tracks.{Track, Stands, since, goes_on, begins_unit}
-use Rattle.og_flatten.proofs.SingleSteps.{step_of, acts, fetches}
+use Rattle.og_csubset.specs.Run.{Machine}
+use Rattle.og_follow.specs.Carrying.{Code, Exits, only, IsRunning, Places, nowhere, place, either, Among, Ways, showing_each, Moves, Passes, Begins, CarriesOut, no_places, behind_unit, one_then, Narrower, code_at, Always}
+use Rattle.og_follow.proofs.Carrying.{step_passes, step_begins, ends_at_once, runs_out_at_once, begins_then, one_then_other, same_doing, by_fuel, as_wider, one_result, one_result_ends, same_ways}
+use Rattle.og_follow.proofs.Calls.{same_way, then_nothing}
+use Rattle.og_flatten.specs.FlatCode.{code_of, transition_function, transition_code, first_entering, entering_place, end_place, steps_of, end_of, body_at, body_length, bodies_of, states_of, sets, region, action_at, step_at, kind_at, ending_at}
+use Rattle.og_flatten.proofs.SingleSteps.{slots_at, step_of, acts, fetches, sets_region}
 use Rattle.og_flatten.proofs.Places.{HasAt}
-use Rattle.og_flatten.proofs.Basic.{StepsAre}
-use Rattle.og_flatten.proofs.Meaning.{piece, run_output, run_next}
+use Rattle.og_flatten.proofs.Basic.{StepsAre, BodyIs, StateIs}
+use Rattle.og_flatten.proofs.Meaning.{piece, run_output, run_next, transition_is, enter_one, settles, whole}
 
 abbrev pub frame : ℕ → ℕ → Frame
 frame f p = record { function = f; place = p }
+
+abbrev pub machine_of : Model → Machine
+machine_of M = flat_machine in_64_bits (code_of M) M
 
 -- every event shows its signal
 abbrev pub Emits : Model → Type 0
 Emits M = (k : ℕ) → k < length M.signals → (slots : List Cells) → flat_event M (code_of M) k slots ≡ Some (Shows.Output k [])
 
--- the code of a model that is followed, from a configuration on
-abbrev pub Followed : Model → Pace → Config → ℕ → ℕ → List Event → Passed → Config → Type 0
-Followed M pace first units statements events seen now = Track (step_of M) pace (code_of M) first units statements events seen now
+-- a process without data
+pub record HasNoData (s : State) : Type 0 where
+  pub variables : s.store.variables ≡ []
+  pub timers : s.timers ≡ []
 
--- ---- single instructions
+-- the code is at a place, and its slots have the number of a state and that of a body
+pub record Here (r x : ℤ) (f p : ℕ) (callers : List Frame) (s : State) (now : Config) : Type 0 where
+  pub is : now ≡ Running (slots_at r x) (frame f p) callers
+  pub bare : HasNoData s
 
-below : {a b : ℕ} → a < b → a ≤ b
-below lt = omega (arith, lt)
+-- the code has returned to outside
+pub record Left (r x : ℤ) (s : State) (now : Config) : Type 0 where
+  pub is : now ≡ Over (slots_at r x)
+  pub bare : HasNoData s
 
-stands : (M : Model) (f p : ℕ) (g : FlatFn) (i : Instr) → slice_get (code_of M).functions f ≡ Some g → slice_get g.code p ≡ Some i → Stands (code_of M) (frame f p)
-stands M f p g i at is = record { function = g; at = at; within = below (slice_get_within g.code p i is) }
+-- ---- places
 
--- an instruction that begins a unit
-pub unit_at : (M : Model) (pace : Pace) → IsPace pace → (first : Config) (units statements : ℕ) (events shown : List Event) (seen : Passed) (slots : List Cells) (f p : ℕ) (callers : List Frame) (g : FlatFn) (i : Instr) (next : Config) → Followed M pace first units statements events seen (Running slots (frame f p) callers) → slice_get (code_of M).functions f ≡ Some g → slice_get g.code p ≡ Some i → seen f p ≡ false → acts M slots (frame f p) callers i ≡ record { events = shown; config = next } → Followed M pace first (suc units) (statements + pace f p) (events ++ shown) (since units seen f p) next
-unit_at M pace is_pace first units statements events shown seen slots f p callers g i next track at is new does =
-    begins_unit (step_of M) pace (code_of M) is_pace first units statements events shown seen slots (frame f p) callers next track (stands M f p g i at is) new
-    (fetches M slots (frame f p) callers g i at is ∙ does)
+-- from one place of a function to another
+abbrev pub from_to : ℕ → ℕ → ℕ → Places
+from_to f a b g p = (g ≡ f) × (a ≤ p) × (p < b)
 
--- an instruction that belongs to the unit before it
-pub free_at : (M : Model) (pace : Pace) → IsPace pace → (first : Config) (units statements : ℕ) (events : List Event) (seen : Passed) (slots : List Cells) (f p : ℕ) (callers : List Frame) (g : FlatFn) (i : Instr) (next : Config) → Followed M pace first units statements events seen (Running slots (frame f p) callers) → slice_get (code_of M).functions f ≡ Some g → slice_get g.code p ≡ Some i → seen f p ≡ false → acts M slots (frame f p) callers i ≡ quiet next → Followed M pace first units (statements + pace f p) events (with_place seen f p) next
-free_at M pace is_pace first units statements events seen slots f p callers g i next track at is new does =
-    subst (λ es. Followed M pace first units (statements + pace f p) es (with_place seen f p) next) (append-nil events)
-    (goes_on (step_of M) pace (code_of M) is_pace first units statements events [] seen slots (frame f p) callers next track (stands M f p g i at is) new
-    (fetches M slots (frame f p) callers g i at is ∙ does))
+-- a body, of which each instruction begins a unit
+abbrev pub body_ways : ℕ → ℕ → Ways
+body_ways a b = record { head = nowhere; near = from_to 0 a b; tail = from_to 0 a b; least = 1 }
 
--- ---- places that are new
+-- a transition, whose next state is entered at this place
+abbrev pub whole_places : ℕ → ℕ → ℕ → Places
+whole_places a b e = either (from_to 0 a b) (place 0 e)
 
--- no place of `transition` was passed from here on
-abbrev pub Ahead : Passed → ℕ → Type 0
-Ahead seen p = (q : ℕ) → p ≤ q → seen 0 q ≡ false
+abbrev pub whole_ways : ℕ → ℕ → ℕ → Ways
+whole_ways a b e = record { head = nowhere; near = whole_places a b e; tail = whole_places a b e; least = 0 }
 
--- what was not passed of other functions is still not passed
-abbrev pub Others : Passed → Passed → Type 0
-Others seen later = (f q : ℕ) → (f ≡ 0 → ⊥) → seen f q ≡ false → later f q ≡ false
+abbrev is_done : {A : Type 0} → Outcome A → Bool
+is_done (Done a) = true
+is_done _ = false
 
-pub with_ahead : (seen : Passed) (p : ℕ) → Ahead seen p → Ahead (with_place seen 0 p) (p + 1)
-with_ahead seen p ahead q le = not_there seen 0 p q (λ e. omega (arith, le, e)) ∙ ahead q (omega (arith, le))
+pub done≢out : {A : Type 0} (a : A) → Done a ≡ Out → ⊥
+done≢out a e = false≢true (sym (ap is_done e))
 
-pub since_ahead : (units : ℕ) (seen : Passed) (p : ℕ) → Ahead seen p → Ahead (since units seen 0 p) (p + 1)
-since_ahead zero seen p ahead = with_ahead seen p ahead
-since_ahead (suc units) seen p ahead = with_ahead none_passed p (λ q le. refl)
+module _ (M : Model) (pace : Pace) (is_pace : IsPace pace) where
+  -- the code of a model
+  abbrev pub coded : Code
+  coded = code_at (machine_of M) pace is_pace (code_of M)
 
-pub later_ahead : (seen : Passed) (p q : ℕ) → p ≤ q → Ahead seen p → Ahead seen q
-later_ahead seen p q le ahead r le' = ahead r (omega (arith, le, le'))
+  -- ---- single instructions
 
-pub with_others : (seen : Passed) (p : ℕ) → Others seen (with_place seen 0 p)
-with_others seen p f q other new = elsewhere seen 0 p f q other ∙ new
+  below : {a b : ℕ} → a < b → a ≤ b
+  below lt = omega (arith)
 
-pub since_others : (units : ℕ) (seen : Passed) (p : ℕ) → Others seen (since units seen 0 p)
-since_others zero seen p f q other new = with_others seen p f q other new
-since_others (suc units) seen p f q other new = elsewhere none_passed 0 p f q other
+  moves : (r x : ℤ) (f p : ℕ) (callers : List Frame) (g : FlatFn) (i : Instr) (shown : List Event) (next : Config) (standing : Config → Type 0) → slice_get (code_of M).functions f ≡ Some g → slice_get g.code p ≡ Some i → acts M (slots_at r x) (frame f p) callers i ≡ record { events = shown; config = next } → standing next → (now : Config) → now ≡ Running (slots_at r x) (frame f p) callers → Moves coded shown standing (place f p) now
+  moves r x f p callers g i shown next standing at is does there now here = record {
+    slots = slots_at r x;
+    frame = frame f p;
+    callers = callers;
+    is = here;
+    stands = record { function = g; at = at; within = below (slice_get_within g.code p i is) };
+    among = (refl, refl);
+    next = next;
+    does = ap (step_of M) here ∙ fetches M (slots_at r x) (frame f p) callers g i at is ∙ does;
+    there = there;
+  }
 
-pub others_on : (a b c : Passed) → Others a b → Others b c → Others a c
-others_on a b c first second f q other new = second f q other (first f q other new)
+  -- an instruction that begins no unit
+  pub goes : (r x : ℤ) (f p : ℕ) (callers : List Frame) (t y : ℤ) (h q : ℕ) (others : List Frame) (g : FlatFn) (i : Instr) → slice_get (code_of M).functions f ≡ Some g → slice_get g.code p ≡ Some i → acts M (slots_at r x) (frame f p) callers i ≡ quiet (Running (slots_at t y) (frame h q) others) → Passes coded (Here r x f p callers) [] (Here t y h q others) (place f p)
+  goes r x f p callers t y h q others g i at is does =
+      step_passes coded (Here r x f p callers) [] (Here t y h q others) (place f p) (λ s now here.
+      moves r x f p callers g i [] (Running (slots_at t y) (frame h q) others) (Here t y h q others s) at is does (record { is = refl; bare = here.bare }) now here.is)
 
--- ---- a body
+  -- the last return
+  pub returns : (r x : ℤ) (f p : ℕ) (g : FlatFn) → slice_get (code_of M).functions f ≡ Some g → slice_get g.code p ≡ Some instr.Back → Passes coded (Here r x f p []) [] (Left r x) (place f p)
+  returns r x f p g at is =
+      step_passes coded (Here r x f p []) [] (Left r x) (place f p) (λ s now here.
+      moves r x f p [] g instr.Back [] (Over (slots_at r x)) (Left r x s) at is refl (record { is = refl; bare = here.bare }) now here.is)
 
--- The units are used up: the code has shown the events and runs on.
-pub record UsedUp (M : Model) (pace : Pace) (first : Config) (units : ℕ) (before : List Event) {A : Type 0} (r : Ran A) : Type 0 where
-  pub statements : ℕ
-  pub events : List Event
-  pub seen : Passed
-  pub slots : List Cells
-  pub at : Frame
-  pub callers : List Frame
-  pub track : Followed M pace first units statements events seen (Running slots at callers)
-  pub shown : events ≡ before ++ r.events
-  pub out : r.outcome ≡ Out
+  -- an instruction that begins one
+  pub begins : (r x : ℤ) (f p : ℕ) (callers : List Frame) (t y : ℤ) (h q : ℕ) (others : List Frame) (g : FlatFn) (i : Instr) (shown : List Event) → slice_get (code_of M).functions f ≡ Some g → slice_get g.code p ≡ Some i → acts M (slots_at r x) (frame f p) callers i ≡ record { events = shown; config = Running (slots_at t y) (frame h q) others } → Begins coded (Here r x f p callers) shown (Here t y h q others) (place f p)
+  begins r x f p callers t y h q others g i shown at is does =
+      step_begins coded (Here r x f p callers) shown (Here t y h q others) (place f p) (λ s now here.
+      moves r x f p callers g i shown (Running (slots_at t y) (frame h q) others) (Here t y h q others s) at is does (record { is = refl; bare = here.bare }) now here.is)
 
--- The body is done: the code stands where the next state is entered.
-pub record Leads (M : Model) (pace : Pace) (first : Config) (units n : ℕ) (before : List Event) (seen : Passed) (slots : List Cells) (callers : List Frame) (s : State) (k : ℕ) (r : Ran Ended) : Type 0 where
-  pub taken : ℕ
-  pub statements : ℕ
-  pub events : List Event
-  pub later : Passed
-  pub track : Followed M pace first taken statements events later (Running slots (frame 0 (entering_place M k)) callers)
-  pub shown : events ≡ before ++ r.events
-  pub counts : taken + r.left ≡ units + n
-  pub outcome : r.outcome ≡ Done (Next k None)
-  pub state : r.state ≡ s
-  pub ahead : Ahead later (entering_place M k)
-  pub others : Others seen later
+  runs : (r x : ℤ) (f p : ℕ) (callers : List Frame) (s : State) (now : Config) → Here r x f p callers s now → IsRunning now
+  runs r x f p callers s now here = record { slots = slots_at r x; frame = frame f p; callers = callers; is = here.is }
 
-abbrev pub FollowsBody : Model → Pace → Config → ℕ → ℕ → List Event → Passed → List Cells → List Frame → State → ℕ → Ran Ended → Type 0
-FollowsBody M pace first units n before seen slots callers s k r =
-    Leads M pace first units n before seen slots callers s k r ⊎ UsedUp M pace first (units + n) before r
+  -- ---- a body
 
-plus_zero : (u : ℕ) → u + zero ≡ u
-plus_zero u = omega (arith)
+  last_place : (p : ℕ) → Narrower (behind_unit (place 0 p) no_places) (body_ways p (p + (0 + 1)))
+  last_place p = record { head = λ f q x. x; near = near; tail = tail; least = omega (arith) }
+    where
+      here : (f q : ℕ) → place 0 p f q → from_to 0 p (p + (0 + 1)) f q
+      here f q x = let e = x.1 in (x.0, omega (arith, e), omega (arith, e))
 
-one_more : (u n : ℕ) → suc u + n ≡ u + suc n
-one_more u n = omega (arith)
+      near : Among (behind_unit (place 0 p) no_places).near (from_to 0 p (p + (0 + 1)))
+      near f q (inl x) = here f q x
+      near f q (inr y) = absurd y
 
--- an event before what follows
-shown_first : (before : List Event) (e : Event) (events more : List Event) → events ≡ (before ++ e ∷ []) ++ more → events ≡ before ++ (e ∷ more)
-shown_first before e events more is = is ∙ append_assoc before (e ∷ []) more
+      tail : Among (behind_unit (place 0 p) no_places).tail (from_to 0 p (p + (0 + 1)))
+      tail f q (inl x) = here f q x
+      tail f q (inr (inl y)) = absurd y
+      tail f q (inr (inr y)) = absurd y
 
-event_first : (M : Model) (pace : Pace) (first : Config) (units n : ℕ) (before : List Event) (seen seen' : Passed) (slots : List Cells) (callers : List Frame) (s : State) (k : ℕ) (e : Event) (r : Ran Ended) → Others seen seen' → FollowsBody M pace first (suc units) n (before ++ e ∷ []) seen' slots callers s k r → FollowsBody M pace first units (suc n) before seen slots callers s k (after_events (e ∷ []) r)
-event_first M pace first units n before seen seen' slots callers s k e r others (inl leads) = inl (record {
-  taken = leads.taken;
-  statements = leads.statements;
-  events = leads.events;
-  later = leads.later;
-  track = leads.track;
-  shown = shown_first before e leads.events r.events leads.shown;
-  counts = leads.counts ∙ one_more units n;
-  outcome = leads.outcome;
-  state = leads.state;
-  ahead = leads.ahead;
-  others = others_on seen seen' leads.later others leads.others;
-})
-event_first M pace first units n before seen seen' slots callers s k e r others (inr used) = inr (record {
-  statements = used.statements;
-  events = used.events;
-  seen = used.seen;
-  slots = used.slots;
-  at = used.at;
-  callers = used.callers;
-  track = subst (λ u. Followed M pace first u used.statements used.events used.seen (Running used.slots used.at used.callers)) (one_more units n) used.track;
-  shown = shown_first before e used.events r.events used.shown;
-  out = used.out;
-})
+  one_place_more : (p n : ℕ) → Narrower (behind_unit (place 0 p) (body_ways (p + 1) (p + 1 + (n + 1)))) (body_ways p (p + (suc n + 1)))
+  one_place_more p n = record { head = λ f q x. x; near = near; tail = tail; least = omega (arith) }
+    where
+      here : (f q : ℕ) → place 0 p f q → from_to 0 p (p + (suc n + 1)) f q
+      here f q x = let e = x.1 in (x.0, omega (arith, e), omega (arith, e))
 
-pub follows_body : (M : Model) (pace : Pace) → IsPace pace → Emits M → (first : Config) (b : Setting) (end : Option Ending) (e : Ending) (k : ℕ) → end ≡ Some e → e.kind ≡ Ends.Next k None → (slots : List Cells) (callers : List Frame) (s : State)
-    → (n : ℕ) (xs : List Step) (units statements : ℕ) (before : List Event) (seen : Passed) (place : ℕ) → StepsAre M xs
-    → HasAt (transition_code M) place (map (step_at (end_place M)) xs ++ instr.Goto (ending_at (first_entering M) (end_place M) end) ∷ [])
-    → Followed M pace first units statements before seen (Running slots (frame 0 place) callers) → Ahead seen place → place + (length xs + 1) ≤ first_entering M
-    → FollowsBody M pace first units n before seen slots callers s k (run n M b (piece xs end) n s)
-follows_body M pace is_pace emits first b end e k is next slots callers s zero xs units statements before seen place are code track ahead le = inr (record {
-  statements = statements;
-  events = before;
-  seen = seen;
-  slots = slots;
-  at = frame 0 place;
-  callers = callers;
-  track = subst (λ u. Followed M pace first u statements before seen (Running slots (frame 0 place) callers)) (sym (plus_zero units)) track;
-  shown = sym (append-nil before);
-  out = refl;
-})
-follows_body M pace is_pace emits first b end e k is next slots callers s (suc n) [] units statements before seen place are code track ahead le =
-    let ran = run_next M b end e k n s is next in
-    let to = ap (λ o. jumped (frame 0 place) (ending_at (first_entering M) (end_place M) o)) is ∙ ap (λ kind. jumped (frame 0 place) (kind_at (first_entering M) (end_place M) kind)) next in
-    let goes = unit_at M pace is_pace first units statements before [] seen slots 0 place callers (transition_function M) (instr.Goto (ending_at (first_entering M) (end_place M) end)) (Running slots (frame 0 (entering_place M k)) callers) track refl code.0 (ahead place (omega (arith))) (ap (λ fr. quiet (Running slots fr callers)) to) in
-    subst (λ r. FollowsBody M pace first units (suc n) before seen slots callers s k r) (sym ran)
-    (inl (record {
-      taken = suc units;
-      statements = statements + pace 0 place;
-      events = before ++ [];
-      later = since units seen 0 place;
-      track = goes;
-      shown = refl;
-      counts = one_more units n;
-      outcome = refl;
-      state = refl;
-      ahead = later_ahead (since units seen 0 place) (place + 1) (entering_place M k) (omega (arith, le)) (since_ahead units seen place ahead);
-      others = since_others units seen place;
-    }))
-follows_body M pace is_pace emits first b end e k is next slots callers s (suc n) (x ∷ xs) units statements before seen place are code track ahead le =
-    let x_is = are.0 in
-    let event = Shows.Output x_is.signal [] in
-    let shows = ap (λ o. showing o slots (frame 0 place) callers) (emits x_is.signal x_is.there slots) in
-    let goes = unit_at M pace is_pace first units statements before (event ∷ []) seen slots 0 place callers (transition_function M) (instr.Emit x_is.signal) (Running slots (frame 0 (place + 1)) callers) track refl (code.0 ∙ ap (λ a. Some (action_at (end_place M) a)) x_is.is) (ahead place (omega (arith))) shows in
-    subst (λ r. FollowsBody M pace first units (suc n) before seen slots callers s k r) (sym (run_output M b x xs end n s x_is))
-    (event_first M pace first units n before seen (since units seen 0 place) slots callers s k event (run n M b (piece xs end) n s) (since_others units seen place)
-    (follows_body M pace is_pace emits first b end e k is next slots callers s n xs (suc units) (statements + pace 0 place) (before ++ event ∷ []) (since units seen 0 place) (place + 1) are.1 code.1 goes (since_ahead units seen place ahead) (omega (arith, le))))
+      there : (f q : ℕ) → from_to 0 (p + 1) (p + 1 + (n + 1)) f q → from_to 0 p (p + (suc n + 1)) f q
+      there f q x = let a = x.1 in let b = x.2 in (x.0, omega (arith, a), omega (arith, b))
+
+      near : Among (behind_unit (place 0 p) (body_ways (p + 1) (p + 1 + (n + 1)))).near (from_to 0 p (p + (suc n + 1)))
+      near f q (inl x) = here f q x
+      near f q (inr y) = absurd y
+
+      tail : Among (behind_unit (place 0 p) (body_ways (p + 1) (p + 1 + (n + 1)))).tail (from_to 0 p (p + (suc n + 1)))
+      tail f q (inl x) = here f q x
+      tail f q (inr (inl y)) = absurd y
+      tail f q (inr (inr y)) = there f q y
+
+  -- from its first instruction to where the next state is entered
+  pub body : Emits M → (b : Setting) (end : Option Ending) (e : Ending) (k : ℕ) → end ≡ Some e → e.kind ≡ Ends.Next k None → (r x : ℤ) (callers : List Frame) (fuel : ℕ) (xs : List Step) (p : ℕ) → StepsAre M xs
+      → HasAt (transition_code M) p (map (step_at (end_place M)) xs ++ instr.Goto (ending_at (first_entering M) (end_place M) end) ∷ [])
+      → CarriesOut coded fuel (run fuel M b (piece xs end)) (Here r x 0 p callers) (only (Done (Next k None)) (Here r x 0 (entering_place M k) callers)) (body_ways p (p + (length xs + 1)))
+  body emits b end e k is next r x callers zero xs p are code =
+      runs_out_at_once coded (Here r x 0 p callers) (only (Done (Next k None)) (Here r x 0 (entering_place M k) callers)) (body_ways p (p + (length xs + 1))) (runs r x 0 p callers)
+  body emits b end e k is next r x callers (suc fuel) [] p are code =
+      let before = Here r x 0 p callers in
+      let there = Here r x 0 (entering_place M k) callers in
+      let to = ap (λ o. jumped (frame 0 p) (ending_at (first_entering M) (end_place M) o)) is ∙ ap (λ kind. jumped (frame 0 p) (kind_at (first_entering M) (end_place M) kind)) next in
+      as_wider coded (suc fuel) (suc fuel) (run (suc fuel) M b (piece [] end)) before before (only (Done (Next k None)) there) (only (Done (Next k None)) there) (behind_unit (place 0 p) no_places) (body_ways p (p + (0 + 1))) (omega (arith)) (λ s now at. at) (λ o s now at. at) (last_place p)
+      (same_doing coded (suc fuel) (spend (showing_each [] (gives (Next k None)))) (run (suc fuel) M b (piece [] end)) before (only (Done (Next k None)) there) (behind_unit (place 0 p) no_places) (run_next M b end e k fuel is next)
+      (begins_then coded fuel (gives (Next k None)) before [] there (only (Done (Next k None)) there) (place 0 p) no_places
+      (begins r x 0 p callers r x 0 (entering_place M k) callers (transition_function M) (instr.Goto (ending_at (first_entering M) (end_place M) end)) [] refl code.0 (ap (λ fr. quiet (Running (slots_at r x) fr callers)) to))
+      (ends_at_once coded fuel (Done (Next k None)) there (only (Done (Next k None)) there) no_places (done≢out (Next k None)) (omega (arith)) (λ s now at. (refl, at)))
+      (λ f q y. absurd y)))
+  body emits b end e k is next r x callers (suc fuel) (step ∷ xs) p are code =
+      let before = Here r x 0 p callers in
+      let exits : Exits Ended = only (Done (Next k None)) (Here r x 0 (entering_place M k) callers) in
+      let step_is = are.0 in
+      let event = Shows.Output step_is.signal [] in
+      let rest = run fuel M b (piece xs end) in
+      as_wider coded (suc fuel) (suc fuel) (run (suc fuel) M b (piece (step ∷ xs) end)) before before exits exits (behind_unit (place 0 p) (body_ways (p + 1) (p + 1 + (length xs + 1)))) (body_ways p (p + (suc (length xs) + 1))) (omega (arith)) (λ s now at. at) (λ o s now at. at) (one_place_more p (length xs))
+      (same_doing coded (suc fuel) (spend (showing_each (event ∷ []) rest)) (run (suc fuel) M b (piece (step ∷ xs) end)) before exits (behind_unit (place 0 p) (body_ways (p + 1) (p + 1 + (length xs + 1)))) (run_output M b step xs end fuel step_is)
+      (begins_then coded fuel rest before (event ∷ []) (Here r x 0 (p + 1) callers) exits (place 0 p) (body_ways (p + 1) (p + 1 + (length xs + 1)))
+      (begins r x 0 p callers r x 0 (p + 1) callers (transition_function M) (instr.Emit step_is.signal) (event ∷ []) refl (code.0 ∙ ap (λ a. Some (action_at (end_place M) a)) step_is.is) (ap (λ o. showing o (slots_at r x) (frame 0 p) callers) (emits step_is.signal step_is.there (slots_at r x))))
+      (body emits b end e k is next r x callers fuel xs (p + 1) are.1 code.1)
+      (λ f q y. absurd y)))
+
+  -- ---- entering
+
+  -- the next state is entered by an instruction of its own
+  pub enters : (r x : ℤ) (callers : List Frame) (k : ℕ) (d : StateDef) → slice_get (states_of M) k ≡ Some d → StateIs M d → HasAt (transition_code M) (entering_place M k) (sets region (pos k) ∷ instr.Back ∷ [])
+      → Always coded (enter M M.root k None) (Here r x 0 (entering_place M k) callers) (only (Done (In (At k Basic))) (Here (pos k) x 0 (entering_place M k + 1) callers)) (behind_unit (place 0 (entering_place M k)) no_places)
+  enters r x callers k d at is code fuel =
+      let e = entering_place M k in
+      let there = Here (pos k) x 0 (e + 1) callers in
+      let exits : Exits Arrival = only (Done (In (At k Basic))) there in
+      let unit = behind_unit (place 0 e) no_places in
+      as_wider coded (suc fuel) fuel (enter M M.root k None) (Here r x 0 e callers) (Here r x 0 e callers) exits exits unit unit (omega (arith)) (λ s now h. h) (λ o s now h. h) (same_ways unit)
+      (same_doing coded (suc fuel) (spend (showing_each [] (gives (In (At k Basic))))) (enter M M.root k None) (Here r x 0 e callers) exits unit (enter_one M k d at is)
+      (begins_then coded fuel (gives (In (At k Basic))) (Here r x 0 e callers) [] there exits (place 0 e) no_places
+      (begins r x 0 e callers (pos k) x 0 (e + 1) callers (transition_function M) (sets region (pos k)) [] refl code.0 (sets_region M r x (pos k) (frame 0 e) callers))
+      (ends_at_once coded fuel (Done (In (At k Basic))) there exits no_places (done≢out (In (At k Basic))) (omega (arith)) (λ s now h. (refl, h)))
+      (λ f q y. absurd y)))
+
+  -- ---- a whole transition
+
+  both_narrower : (a b e : ℕ) → Narrower (one_then (body_ways a b) (behind_unit (place 0 e) no_places)) (whole_ways a b e)
+  both_narrower a b e = record { head = head; near = near; tail = tail; least = omega (arith) }
+    where
+      head : Among (one_then (body_ways a b) (behind_unit (place 0 e) no_places)).head nowhere
+      head f p (inl x) = x
+      head f p (inr y) = y.1
+
+      near : Among (one_then (body_ways a b) (behind_unit (place 0 e) no_places)).near (whole_places a b e)
+      near f p (inl x) = inl x
+      near f p (inr (inl y)) = absurd y.1
+      near f p (inr (inr (few, inl z))) = inr z
+      near f p (inr (inr (few, inr z))) = absurd z
+
+      tail : Among (one_then (body_ways a b) (behind_unit (place 0 e) no_places)).tail (whole_places a b e)
+      tail f p (inl x) = inl x
+      tail f p (inr (inl y)) = absurd y
+      tail f p (inr (inr (inl z))) = inr z
+      tail f p (inr (inr (inr (inl z)))) = absurd z
+      tail f p (inr (inr (inr (inr z)))) = absurd z
+
+  -- from the body to where the next state was entered
+  pub carries_whole : Emits M → (r x : ℤ) (callers : List Frame) (p body_number : ℕ) (b : Body) (origin : Option ℕ) → slice_get (bodies_of M) body_number ≡ Some b → (is : BodyIs M b) → (d : StateDef) → slice_get (states_of M) is.state ≡ Some d → StateIs M d
+      → HasAt (transition_code M) p (body_at (first_entering M) (end_place M) b) → HasAt (transition_code M) (entering_place M is.state) (sets region (pos is.state) ∷ instr.Back ∷ [])
+      → Always coded (whole M (Some body_number) origin) (Here r x 0 p callers) (only (Done (At is.state Basic)) (Here (pos is.state) x 0 (entering_place M is.state + 1) callers)) (whole_ways p (p + body_length b) (entering_place M is.state))
+  carries_whole emits r x callers p body_number b origin at is d at_state state_is code entering fuel =
+      let k = is.state in
+      let e = entering_place M k in
+      let before = Here r x 0 p callers in
+      let there = Here (pos k) x 0 (e + 1) callers in
+      let ways = whole_ways p (p + body_length b) e in
+      let run_all : Doing Ended = transition M M.root (Some body_number) in
+      let arrives : Doing Arrival = then_do run_all (after (enter M) M.root origin) in
+      let rests : Doing Active = then_do arrives at_root in
+      let one : CarriesOut coded fuel run_all before (only (Done (Next k None)) (Here r x 0 e callers)) (body_ways p (p + body_length b)) =
+      same_doing coded fuel (λ n s. run n M (in_scope (bodies_of M)) (piece (steps_of b) (end_of b)) n s) run_all before (only (Done (Next k None)) (Here r x 0 e callers)) (body_ways p (p + body_length b)) (λ n s. transition_is M body_number b n s at)
+      (by_fuel coded (λ units. run units M (in_scope (bodies_of M)) (piece (steps_of b) (end_of b))) before (only (Done (Next k None)) (Here r x 0 e callers)) (body_ways p (p + body_length b))
+      (λ units. body emits (in_scope (bodies_of M)) (end_of b) is.ending k is.ends is.next r x callers units (steps_of b) p is.steps code) fuel) in
+      let two : CarriesOut coded fuel arrives before (only (Done (In (At k Basic))) there) ways =
+      as_wider coded fuel fuel arrives before before (only (Done (In (At k Basic))) there) (only (Done (In (At k Basic))) there) (one_then (body_ways p (p + body_length b)) (behind_unit (place 0 e) no_places)) ways (omega (arith)) (λ s now h. h) (λ o s now h. h) (both_narrower p (p + body_length b) e)
+      (one_then_other coded fuel run_all (after (enter M) M.root origin) before (only (Done (Next k None)) (Here r x 0 e callers)) (only (Done (In (At k Basic))) there) (body_ways p (p + body_length b)) (behind_unit (place 0 e) no_places) one
+      (one_result coded fuel (after (enter M) M.root origin) (Next k None) (Here r x 0 e callers) (only (Done (In (At k Basic))) there) (behind_unit (place 0 e) no_places)
+      (same_doing coded fuel (enter M M.root k None) (after (enter M) M.root origin (Next k None)) (Here r x 0 e callers) (only (Done (In (At k Basic))) there) (behind_unit (place 0 e) no_places) (λ n s. refl) (enters r x callers k d at_state state_is entering fuel)))
+      (one_result_ends (Next k None) (Here r x 0 e callers) (only (Done (In (At k Basic))) there))
+      (record { tail = λ f q y z. y; head = λ few f q y z. y; near = λ few f q y z. y; both = λ none f q y z. z })) in
+      let three : CarriesOut coded fuel rests before (only (Done (At k Basic)) there) ways =
+      as_wider coded fuel fuel rests before before (only (Done (At k Basic)) there) (only (Done (At k Basic)) there) (one_then ways no_places) ways (omega (arith)) (λ s now h. h) (λ o s now h. h) (same_way ways)
+      (one_then_other coded fuel arrives at_root before (only (Done (In (At k Basic))) there) (only (Done (At k Basic)) there) ways no_places two
+      (one_result coded fuel at_root (In (At k Basic)) there (only (Done (At k Basic)) there) no_places
+      (ends_at_once coded fuel (Done (At k Basic)) there (only (Done (At k Basic)) there) no_places (done≢out (At k Basic)) (omega (arith)) (λ s now h. (refl, h))))
+      (one_result_ends (In (At k Basic)) there (only (Done (At k Basic)) there)) (then_nothing ways)) in
+      as_wider coded fuel fuel (whole M (Some body_number) origin) before before (only (Done (At k Basic)) there) (only (Done (At k Basic)) there) (one_then ways no_places) ways (omega (arith)) (λ s now h. h) (λ o s now h. h) (same_way ways)
+      (one_then_other coded fuel rests (settle M) before (only (Done (At k Basic)) there) (only (Done (At k Basic)) there) ways no_places three
+      (one_result coded fuel (settle M) (At k Basic) there (only (Done (At k Basic)) there) no_places
+      (same_doing coded fuel (gives (At k Basic)) (settle M (At k Basic)) there (only (Done (At k Basic)) there) no_places (λ n s. settles M k d n s at_state state_is)
+      (ends_at_once coded fuel (Done (At k Basic)) there (only (Done (At k Basic)) there) no_places (done≢out (At k Basic)) (omega (arith)) (λ s now h. (refl, h)))))
+      (one_result_ends (At k Basic) there (only (Done (At k Basic)) there)) (then_nothing ways))

@@ -6,11 +6,7 @@ use Rattle.og_ir.specs.Cells.{Cells}
 use Rattle.og_ir.specs.Arithmetic.{Trouble}
 use Rattle.og_ir.specs.Steps.{Config, Running, Over, Broken, Ran, quiet, joined, and_then}
 use Rattle.og_csubset.specs.Paced.{Pace, IsPace, statements_at, exec_paced}
-
--- a run that is over or broken stays as it is
-pub record Stays {E : Type 0} (step : Config → Ran E) : Type 0 where
-  pub over : (slots : List Cells) → step (Over slots) ≡ quiet (Over slots)
-  pub broken : (trouble : Trouble) → step (Broken trouble) ≡ quiet (Broken trouble)
+use Rattle.og_follow.specs.Answers.{Stays}
 
 -- one statement, where the step is complete with it or not
 abbrev one_by : {E : Type 0} → Bool → Pace → (Config → Ran E) → ℕ → ℕ → Config → Ran E

@@ -1,6 +1,4 @@
--- A run of code that is being followed: how many units of work were taken, how many statements were carried out, what was
--- shown, and which places were passed since the last unit. Each unit has a statement of its own, and between the beginnings
--- of two units no place is passed twice; what is passed before the first unit counts with it.
+-- A run that is followed goes on by a step, begins a unit with a step, and comes to its end or to the last of its units.
 use Rattle.std.proofs.Common.{◌≡◌, ℕ, zero, suc, ◌+◌, ◌*◌, ◌≤◌, false, List, [], ◌++◌, length, slice_get, Some, refl, ap, ◌∙◌, arith}
 use Rattle.std.proofs.Math.Nat.{mul-le-mul_right, suc-mul}
 use Rattle.std.proofs.lemmas.List.{append-nil}
@@ -12,19 +10,11 @@ use Rattle.og_ir.specs.Steps.{Frame, Config, Running, Over, Ran, joined, and_the
 use Rattle.og_ir.proofs.Runs.{joined_twice}
 use Rattle.og_csubset.specs.Paced.{Pace, IsPace, exec_paced, paced_size}
 use Rattle.og_csubset.specs.Run.{Machine}
-use Rattle.og_flatten.proofs.PacedSteps.{whole_step}
-use Rattle.og_flatten.proofs.Passing.{Passed, none_passed, with_place, passed, passed_le, passed_with}
-use Rattle.og_flatten.proofs.Agreeing.{Ended, RunsOn}
-
--- the units that are complete
-abbrev pub complete : ℕ → ℕ
-complete zero = zero
-complete (suc units) = units
-
-pub record Track (step : Config → Ran Event) (pace : Pace) (ir : Ir) (first : Config) (units statements : ℕ) (events : List Event) (seen : Passed) (now : Config) : Type 0 where
-  pub goes : (k : ℕ) → exec_paced pace step (statements + k) 0 first ≡ joined events (exec_paced pace step k 0 now)
-  pub least : units ≤ statements
-  pub most : statements ≤ complete units * paced_size pace ir + passed pace seen ir
+use Rattle.og_follow.proofs.PacedSteps.{whole_step}
+use Rattle.og_follow.specs.Passing.{Passed, none_passed, with_place, passed}
+use Rattle.og_follow.specs.Tracks.{complete, Track, Stands, since}
+use Rattle.og_follow.specs.Answers.{Ended, RunsOn}
+use Rattle.og_follow.proofs.Passing.{passed_le, passed_with}
 
 plus_none : (k : ℕ) → 0 + k ≡ k
 plus_none k = omega (arith)
@@ -36,12 +26,6 @@ begins step pace ir first = record {
   least = omega (arith);
   most = omega (arith);
 }
-
--- the place of a frame is one of the code, or the end of a function
-pub record Stands (ir : Ir) (frame : Frame) : Type 0 where
-  pub function : FlatFn
-  pub at : slice_get ir.functions frame.function ≡ Some function
-  pub within : frame.place ≤ length function.code
 
 assoc : (a b c : ℕ) → a + b + c ≡ a + (b + c)
 assoc a b c = omega (arith)
@@ -70,22 +54,17 @@ goes_on step pace ir is_pace first units statements events shown seen slots fram
       most = omega (arith, adds, most);
     }
 
--- the places that were passed since a unit that begins here, where so many units were begun before
-abbrev pub since : ℕ → Passed → ℕ → ℕ → Passed
-since zero seen f p = with_place seen f p
-since (suc units) seen f p = with_place none_passed f p
-
-most_since : (pace : Pace) (ir : Ir) (units statements : ℕ) (seen : Passed) (f p : ℕ) (g : FlatFn) → slice_get ir.functions f ≡ Some g → p ≤ length g.code → seen f p ≡ false → statements ≤ complete units * paced_size pace ir + passed pace seen ir → statements + pace f p ≤ complete (suc units) * paced_size pace ir + passed pace (since units seen f p) ir
+most_since : (pace : Pace) (ir : Ir) (units statements : ℕ) (seen : Passed) (f p : ℕ) (g : FlatFn) → slice_get ir.functions f ≡ Some g → p ≤ length g.code → (units ≡ 0 → seen f p ≡ false) → statements ≤ complete units * paced_size pace ir + passed pace seen ir → statements + pace f p ≤ complete (suc units) * paced_size pace ir + passed pace (since units seen f p) ir
 most_since pace ir zero statements seen f p g at within new most =
-    let adds = passed_with pace seen ir f p g at within new in omega (arith, adds, most)
+    let adds = passed_with pace seen ir f p g at within (new refl) in omega (arith, adds, most)
 most_since pace ir (suc units) statements seen f p g at within new most =
     let adds = passed_with pace none_passed ir f p g at within refl in
     let all = passed_le pace seen ir in
     let product = suc-mul units (paced_size pace ir) in
     omega (arith, adds, most, all, product)
 
--- a step that begins a unit
-pub begins_unit : (step : Config → Ran Event) (pace : Pace) (ir : Ir) → IsPace pace → (first : Config) (units statements : ℕ) (events shown : List Event) (seen : Passed) (slots : List Cells) (frame : Frame) (callers : List Frame) (next : Config) → Track step pace ir first units statements events seen (Running slots frame callers) → Stands ir frame → seen frame.function frame.place ≡ false → step (Running slots frame callers) ≡ record { events = shown; config = next } → Track step pace ir first (suc units) (statements + pace frame.function frame.place) (events ++ shown) (since units seen frame.function frame.place) next
+-- a step that begins a unit; what was passed before counts where it is the first one
+pub begins_unit : (step : Config → Ran Event) (pace : Pace) (ir : Ir) → IsPace pace → (first : Config) (units statements : ℕ) (events shown : List Event) (seen : Passed) (slots : List Cells) (frame : Frame) (callers : List Frame) (next : Config) → Track step pace ir first units statements events seen (Running slots frame callers) → Stands ir frame → (units ≡ 0 → seen frame.function frame.place ≡ false) → step (Running slots frame callers) ≡ record { events = shown; config = next } → Track step pace ir first (suc units) (statements + pace frame.function frame.place) (events ++ shown) (since units seen frame.function frame.place) next
 begins_unit step pace ir is_pace first units statements events shown seen slots frame callers next track stands new does =
     let least = track.least in
     let some = is_pace frame.function frame.place in

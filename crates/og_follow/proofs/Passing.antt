@@ -1,4 +1,4 @@
--- Which places of the code were passed, and how many statements stand there: at most as many as in all functions, and each
+-- The statements at the places that were passed: at most as many as in all functions, and each
 -- place that is passed anew adds its own.
 use Rattle.std.proofs.Common.{◌≡◌, ℕ, zero, suc, ◌+◌, ◌≤◌, ◌<◌, Bool, true, false, ◌&&◌, ◌||◌, nat_eq, List, [], ◌∷◌, length, slice_get, Some, ◌⊎◌, inl, inr, ◌≢◌, refl, sym, ap, subst, ◌∙◌, arith}
 use Rattle.std.proofs.lemmas.Bool.{ne_eqb, eq-eqb}
@@ -7,33 +7,7 @@ use Rattle.std.proofs.lemmas.Option.{none-some}
 use Rattle.og_ir.specs.declared.Ir.{Ir}
 use Rattle.og_ir.specs.declared.FlatFn.{FlatFn}
 use Rattle.og_csubset.specs.Paced.{Pace, statements_below, paced_size_from, paced_size}
-
--- for each place of each function, whether it was passed
-abbrev pub Passed : Type 0
-Passed = ℕ → ℕ → Bool
-
-abbrev pub none_passed : Passed
-none_passed f p = false
-
--- one place more
-abbrev pub with_place : Passed → ℕ → ℕ → Passed
-with_place seen f p g q = (nat_eq g f && nat_eq q p) || seen g q
-
-abbrev counted : Bool → ℕ → ℕ
-counted true n = n
-counted false n = 0
-
-abbrev pub passed_below : (ℕ → ℕ) → (ℕ → Bool) → ℕ → ℕ
-passed_below pace seen zero = 0
-passed_below pace seen (suc n) = passed_below pace seen n + counted (seen n) (pace n)
-
-abbrev pub passed_from : Pace → Passed → ℕ → List FlatFn → ℕ
-passed_from pace seen k [] = 0
-passed_from pace seen k (f ∷ functions) = passed_below (pace k) (seen k) (length f.code + 1) + passed_from pace seen (k + 1) functions
-
--- the statements at the places that were passed
-abbrev pub passed : Pace → Passed → Ir → ℕ
-passed pace seen ir = passed_from pace seen 0 ir.functions
+use Rattle.og_follow.specs.Passing.{Passed, with_place, counted, passed_below, passed_from, passed}
 
 -- ---- at most all statements
 

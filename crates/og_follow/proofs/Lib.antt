@@ -1,0 +1,9 @@
+pub mod PacedSteps
+pub mod Passing
+pub mod Agreeing
+pub mod Tracks
+pub mod Carrying
+pub mod Answering
+pub mod Calls
+pub mod Partitions
+pub mod Settling

@@ -1,0 +1,5 @@
+pub mod Passing
+pub mod Tracks
+pub mod Answers
+pub mod Carrying
+pub mod Trials
