@@ -1,0 +1,2 @@
+pub mod ReadUnits
+pub mod WrittenUnits

@@ -1,0 +1,18 @@
+use Rattle.std.proofs.Common.{List, ap, ◌∙◌}
+use Rattle.og_sdl.specs.declared.table.TheConstants.{SDL}
+use Rattle.og_reading.proofs.Whole.{is_text, is_no_other, refuses}
+use Rattle.og_parse.specs.Reading.{units_at, units_of}
+use Rattle.og_parse.specs.Grammar.{IsFile}
+use Rattle.og_parse.proofs.ReadUnits.{reads_file}
+use Rattle.og_parse.proofs.WrittenUnits.{writes_file}
+use Rattle.og_parse.proofs.parse.parse_units.Goals as goal
+
+pub returns-in-Ok-clause-found : goal.returns-in-Ok-clause-found
+returns-in-Ok-clause-found c =
+    is_text SDL units_at IsFile reads_file c.args.tokens.now c.in-Ok.choices c.in_ok-units-in-Ok.units c.in-Ok.ensures.found
+    (c.in_ok-units-in-Ok.ensures ∙ ap (λ (cs : List ℕ). units_of cs c.args.tokens.now) c.as_slice-in-Ok.ensures)
+
+pub returns-in-Ok-clause-only : goal.returns-in-Ok-clause-only
+returns-in-Ok-clause-only c =
+    is_no_other SDL units_at IsFile writes_file c.args.tokens.now c.in-Ok.choices c.in_ok-units-in-Ok.units c.in-Ok.ensures.only
+    (c.in_ok-units-in-Ok.ensures ∙ ap (λ (cs : List ℕ). units_of cs c.args.tokens.now) c.as_slice-in-Ok.ensures)
