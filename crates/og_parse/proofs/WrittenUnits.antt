@@ -152,7 +152,7 @@ a_name rest = (name_in rest, behind rest)
 abbrev behind_count : {X : Type 0} → (Place → Name → Option CountTree → Take X) → Place → Name → Take (Option CountTree × X)
 behind_count take place name = then_take (maybe count_at) (take place name)
 
-abbrev behind_place : {X : Type 0} → (Place → Name → Option CountTree → Take X) → Place → Take (Name × Option CountTree × X)
+abbrev behind_place : {X : Type 0} → (Place → Name → Option CountTree → Take X) → Place → Take (Name × (Option CountTree × X))
 behind_place take place = then_take a_name (behind_count take place)
 
 headed_read : {X : Type 0} {s : Symbol} (take : ℕ → Place → Name → Option CountTree → Take X) (place : Place) (name : Name) (count : Option CountTree) {x : X} (ts us vs ws rest : List Spanned) → Reserved word.Process place ts us

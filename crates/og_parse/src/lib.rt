@@ -3,6 +3,7 @@
 
 mod block;
 mod ground;
+pub mod laws;
 mod parse;
 mod process;
 mod system;

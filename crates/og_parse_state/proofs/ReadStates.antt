@@ -44,7 +44,7 @@ use Rattle.og_parse_body.specs.Reading.{name_at, end_at, own_name_at, closing_at
 use Rattle.og_parse_body.specs.Grammar.{IsEnd, AreNames, IsClosing, IsDcl, IsTimer, IsTransition, IsConnection, IsProcedure}
 use Rattle.og_parse_body.proofs.ReadBodies.{sdl_has, ends, name_lists, own_names, closings, dcls, timers, reads_transition, connections, procedures}
 use Rattle.og_parse_state.specs.declared.state.HeaderText.{HeaderText}
-use Rattle.og_parse_state.specs.Reading.{start_at, in_at, enabling_at, input_at, priority_at, provided_at, connect_at, save_at, part_at, direction_at, points_at, state_body_at, composite_body_at, plain_at, header_at, empty_at, SoFar, again_at, one_state_at, partition_at, aggregated_at, aggregation_body_at, after_one_at, several_at, after_state_name_at, aggregation_at, all_states_at, state_at, inner_by, inner_at}
+use Rattle.og_parse_state.specs.Reading.{start_at, in_at, enabling_at, input_at, priority_at, provided_at, connect_at, save_at, part_at, direction_at, points_at, state_body_at, composite_body_at, plain_at, header_at, empty_at, SoFar, again_at, one_state_at, partition_at, begun_at, first_composite_at, aggregated_at, aggregation_body_at, after_one_at, several_at, after_state_name_at, aggregation_at, all_states_at, state_at, inner_by, inner_at}
 use Rattle.og_parse_state.specs.Grammar.{IsClosed, IsStart, IsList, IsIn, IsEnabling, IsInput, IsPriority, IsProvided, IsConnect, IsSave, IsStatePart, IsState, IsDirection, IsPoints, IsHeader, IsAggregationHeader, IsOpening, IsEmptyState, IsOther, other_dcl, other_timer, other_procedure, other_state, IsInner, a_dcl, a_timer, a_procedure, a_start, a_state, a_composite, an_aggregation, a_connection, AreInners, no_inner_part, more_inner_parts, IsComposite, composite, IsAggregation, aggregation, AreAggregated, another, first_composite, ArePartitions, no_partition, more_partitions, IsPartition, other_partition, composite_partition}
 
 -- these, and those that came behind them
@@ -241,7 +241,7 @@ module _ (n : ℕ) (inner : Take InnerTree) (inners : Reads SDL n (Part 107 ∷ 
       (rule (reads_as (λ x. x.1) IsPartition (λ x ts us b. b.2 ts b.1) (reads_then (headers n) one_states)) ∷ []) refl
 
   aggregation_bodies : (h : HeaderText) → Reads SDL n (Part 113 ∷ []) (aggregation_body_at n inner h) (λ a ts us. (start : List Spanned) → IsAggregationHeader h.place h.name h.«end» start ts → IsAggregation a start us)
-  unfolding aggregation_body_at aggregated_at
+  unfolding aggregation_body_at aggregated_at begun_at first_composite_at
   aggregation_bodies h =
       reads_part 113 (Part 113) refl
       (rule (reads_as (λ x. record { place = h.place; name = h.name; «end» = h.«end»; points = x.1.0; parts = x.1.1.1.1.1.1.0; closing = x.1.1.1.1.1.1.1 }) _

@@ -47,7 +47,7 @@ use Rattle.og_parse_body.specs.Grammar.{IsEnd, AreNames, IsClosing, IsDcl, IsTim
 use Rattle.og_parse_body.proofs.ReadBodies.{sdl_has}
 use Rattle.og_parse_body.proofs.WrittenBodies.{by_rule, Each, writes_end, writes_names, writes_own_name, writes_closing, writes_dcl, writes_timer, keyword_not_first, writes_transition, writes_connection, writes_procedure}
 use Rattle.og_parse_state.specs.declared.state.HeaderText.{HeaderText}
-use Rattle.og_parse_state.specs.Reading.{start_at, in_at, enabling_at, input_at, priority_at, provided_at, connect_at, save_at, part_at, direction_at, points_at, state_body_at, composite_body_at, plain_at, header_at, empty_at, SoFar, again_at, one_state_at, partition_at, aggregated_at, aggregation_body_at, after_one_at, several_at, after_state_name_at, aggregation_at, all_states_at, state_at, inner_by, inner_at}
+use Rattle.og_parse_state.specs.Reading.{start_at, in_at, enabling_at, input_at, priority_at, provided_at, connect_at, save_at, part_at, direction_at, points_at, state_body_at, composite_body_at, plain_at, header_at, empty_at, SoFar, again_at, one_state_at, partition_at, begun_at, first_composite_at, aggregated_at, aggregation_body_at, after_one_at, several_at, after_state_name_at, aggregation_at, all_states_at, state_at, inner_by, inner_at}
 use Rattle.og_parse_state.specs.Grammar.{IsClosed, IsStart, IsList, IsIn, IsEnabling, IsInput, IsPriority, IsProvided, IsConnect, IsSave, IsStatePart, IsState, IsDirection, IsPoints, IsHeader, IsAggregationHeader, IsOpening, IsEmptyState, IsOther, other_dcl, other_timer, other_procedure, other_state, IsInner, a_dcl, a_timer, a_procedure, a_start, a_state, a_composite, an_aggregation, a_connection, AreInners, no_inner_part, more_inner_parts, IsComposite, composite, IsAggregation, aggregation, AreAggregated, another, first_composite, ArePartitions, no_partition, more_partitions, IsPartition, other_partition, composite_partition}
 
 -- ---- starts, and what triggers the transitions of a state
@@ -359,19 +359,19 @@ the_closing rest = closing_at (place_in rest) (behind rest)
 abbrev behind_composite : ℕ → SoFar → CompositeTree → Take (List AggregationPart × ClosingTree)
 behind_composite n x c = then_take (more_of (partition_at n (inner_at n)) (x.0 ++ other.Composite c ∷ [])) (λ ps. the_closing)
 
-abbrev behind_agains : ℕ → SoFar → Take (CompositeTree × List AggregationPart × ClosingTree)
+abbrev behind_agains : ℕ → SoFar → Take (CompositeTree × (List AggregationPart × ClosingTree))
 behind_agains n x = then_take (composite_body_at (inner_at n) x.1) (behind_composite n x)
 
-abbrev behind_header : ℕ → List AggregationPart → HeaderText → Take (SoFar × CompositeTree × List AggregationPart × ClosingTree)
+abbrev behind_header : ℕ → List AggregationPart → HeaderText → Take (SoFar × (CompositeTree × (List AggregationPart × ClosingTree)))
 behind_header n os h = then_take (onto (again_at n) (os, h)) (behind_agains n)
 
-abbrev behind_plains : ℕ → List AggregationPart → Take (HeaderText × SoFar × CompositeTree × List AggregationPart × ClosingTree)
+abbrev behind_plains : ℕ → List AggregationPart → Take (HeaderText × (SoFar × (CompositeTree × (List AggregationPart × ClosingTree))))
 behind_plains n os = then_take header_at (behind_header n os)
 
 aggregation_read : (h : HeaderText) (points : List PointsTree) (parts : List AggregationPart) (closing : ClosingTree) (ts us vs ws : List Spanned) → IsOpening points ts us → Aggregated parts us vs
     → IsClosed word.Endsubstructure closing vs ws
     → Writes SDL (Part 113 ∷ []) (λ n. aggregation_body_at n (inner_at n) h) (record { place = h.place; name = h.name; «end» = h.«end»; points = points; parts = parts; closing = closing }) ts ws
-unfolding aggregation_body_at aggregated_at the_closing
+unfolding aggregation_body_at aggregated_at begun_at first_composite_at the_closing
 aggregation_read h points parts closing ts us vs ws o a c =
     let r = a.arranged in
     subst (λ (z : List AggregationPart). Writes SDL (Part 113 ∷ []) (λ n. aggregation_body_at n (inner_at n) h) (record { place = h.place; name = h.name; «end» = h.«end»; points = points; parts = z; closing = closing }) ts ws) (sym a.is)
@@ -472,7 +472,7 @@ one_name place name e parts closing ts us vs q b =
 abbrev behind_names : ℕ → Place → List Name → Take (EndTree × StateTree)
 behind_names n place names = then_take end_at (λ e. state_body_at n place (list.Names names) e)
 
-abbrev behind_second : ℕ → Place → Name → Name → Take (List Name × EndTree × StateTree)
+abbrev behind_second : ℕ → Place → Name → Name → Take (List Name × (EndTree × StateTree))
 behind_second n place name second = then_take (more_of (next name_at) (name ∷ second ∷ [])) (λ names. behind_names n place names)
 
 several_names : (place : Place) (name second : Name) (more : List Name) (e : EndTree) (parts : List PartTree) (closing : ClosingTree) (ts us vs ws : List Spanned) → Reserved word.State place ts us

@@ -167,14 +167,23 @@ partition_at n inner rest =
     let start = after rest in
     if choice_in rest == 0 then plain_at n start else (let h = header_at start in one_state_at inner h.0 h.1)
 
+-- up to the header of the first composite state
+unfoldable pub begun_at : ℕ → Take SoFar
+begun_at n rest =
+    let plains = more_of (plain_at n) [] rest in
+    let h = header_at plains.1 in
+    onto (again_at n) (plains.0, h.0) h.1
+
+-- with that state, behind its header
+unfoldable pub first_composite_at : Take InnerTree → SoFar → Take (List AggregationPart)
+first_composite_at inner x rest = let c = composite_body_at inner x.1 rest in (x.0 ++ other.Composite c.0 ∷ [], c.1)
+
 -- the parts of an aggregation
 unfoldable pub aggregated_at : ℕ → Take InnerTree → Take (List AggregationPart)
 aggregated_at n inner rest =
-    let plains = more_of (plain_at n) [] rest in
-    let h = header_at plains.1 in
-    let x = onto (again_at n) (plains.0, h.0) h.1 in
-    let c = composite_body_at inner x.0.1 x.1 in
-    more_of (partition_at n inner) (x.0.0 ++ other.Composite c.0 ∷ []) c.1
+    let x = begun_at n rest in
+    let parts = first_composite_at inner x.0 x.1 in
+    more_of (partition_at n inner) parts.0 parts.1
 
 -- an aggregation behind its header
 unfoldable pub aggregation_body_at : ℕ → Take InnerTree → HeaderText → Take AggregationTree

@@ -1,7 +1,7 @@
 //! What stands in an aggregation beside composite states.
 ghost use Rattle.std.specs.Prelude.{◌≡◌, IfOk};
 ghost use Rattle.og_reading.specs.Reading.{rest_of, onto};
-ghost use Rattle.og_parse_state.specs.Reading.{plain_at, empty_at, again_at};
+ghost use Rattle.og_parse_state.specs.Reading.{plain_at, empty_at, again_at, begun_at};
 
 use crate::state::{HeaderText, header_of};
 use og_ast::{AggregationPart, EmptyStateTree};
@@ -84,9 +84,23 @@ fn again_of<'a>(
     Ok(((parts, header), from))
 }
 
+/// `{ plain } header { again }`, up to the header of the first composite state.
+#[tactic(auto, unfolding(crate::specs::Reading::begun_at))]
+pub fn begun_of<'a>(
+    alloc: Global,
+    fuel: usize,
+    from: Left<'a>,
+) -> Result<(SoFar, Left<'a>), NoMemory>
+    ensures { IfOk result (λ x. (x.0, rest_of x.1) ≡ begun_at fuel (rest_of from.entry)) }
+{
+    let (plains, from) = more_of::<PlainReader>(alloc, fuel, Items::new(alloc), from)?;
+    let (header, from) = header_of(alloc, from)?;
+    agains_of(alloc, fuel, (plains, header), from)
+}
+
 /// States that name a partition, as often as they stand there.
 #[tactic(auto, using(og_reading::proofs::Turns::loop_turns))]
-pub fn agains_of<'a>(
+fn agains_of<'a>(
     alloc: Global,
     fuel: usize,
     first: SoFar,

@@ -2,9 +2,9 @@
 //! like stand one inside the other.
 ghost use Rattle.std.specs.Prelude.{◌≡◌, [], IfOk};
 ghost use Rattle.og_reading.specs.Reading.{rest_of, more_of};
-ghost use Rattle.og_parse_state.specs.Reading.{composite_body_at, one_state_at, partition_at, aggregated_at, aggregation_body_at, after_one_at, after_state_name_at, aggregation_at, state_at, no_inner, inner_by, inner_at};
+ghost use Rattle.og_parse_state.specs.Reading.{composite_body_at, one_state_at, partition_at, first_composite_at, aggregated_at, aggregation_body_at, after_one_at, after_state_name_at, aggregation_at, state_at, no_inner, inner_by, inner_at};
 
-use crate::aggregation::{PlainReader, agains_of, empty_of};
+use crate::aggregation::{PlainReader, SoFar, begun_of, empty_of};
 use crate::basic::{PointsReader, start_of};
 use crate::state::{HeaderText, all_states_of, header_of, several_of, state_body_of};
 use og_ast::{
@@ -270,12 +270,26 @@ fn aggregated_of<'a>(
 ) -> Result<(Items<AggregationPart>, Left<'a>), NoMemory>
     ensures { IfOk result (λ x. (x.0, rest_of x.1) ≡ aggregated_at fuel (inner_at fuel) (rest_of from.entry)) }
 {
-    let (plains, from) = more_of::<PlainReader>(alloc, fuel, Items::new(alloc), from)?;
-    let (header, from) = header_of(alloc, from)?;
-    let ((mut parts, header), from) = agains_of(alloc, fuel, (plains, header), from)?;
+    let (so_far, from) = begun_of(alloc, fuel, from)?;
+    let (parts, from) = first_composite_of(alloc, fuel, so_far, from)?;
+    partitions_of(alloc, fuel, parts, from)
+}
+
+/// The parts so far and the first composite state, behind its header.
+#[cycle(inner)]
+#[tactic(auto, unfolding(crate::specs::Reading::first_composite_at))]
+fn first_composite_of<'a>(
+    alloc: Global,
+    fuel: usize,
+    so_far: SoFar,
+    from: Left<'a>,
+) -> Result<(Items<AggregationPart>, Left<'a>), NoMemory>
+    ensures { IfOk result (λ x. (x.0, rest_of x.1) ≡ first_composite_at (inner_at fuel) so_far (rest_of from.entry)) }
+{
+    let (mut parts, header) = so_far;
     let (composite, from) = composite_body_of(alloc, fuel, header, from)?;
     parts.push(AggregationPart::Composite(composite))?;
-    partitions_of(alloc, fuel, parts, from)
+    Ok((parts, from))
 }
 
 /// `{ partition }`, behind these.

@@ -14,6 +14,9 @@ decreases-inners_of l = 16 * l.fuel + 1
 abbrev pub decreases-composite_body_of : goal.decreases-composite_body_of
 decreases-composite_body_of l = 16 * l.fuel + 2
 
+abbrev pub decreases-first_composite_of : goal.decreases-first_composite_of
+decreases-first_composite_of l = 16 * l.fuel + 3
+
 abbrev pub decreases-one_state_of : goal.decreases-one_state_of
 decreases-one_state_of l = 16 * l.fuel + 3
 
