@@ -1,3 +1,4 @@
 pub mod Rules
 pub mod ReadExpressions
 pub mod WrittenExpressions
+pub mod Whole

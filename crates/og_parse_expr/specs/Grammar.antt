@@ -23,7 +23,9 @@ use Rattle.og_ast.specs.declared.expression.SelectorKind.{Dot, Exclamation, Inde
 use Rattle.og_ast.specs.declared.expression.FieldTree.{FieldTree}
 use Rattle.og_ast.specs.declared.expression.FieldTree.TheVariants as field
 use Rattle.og_reading.specs.Fronts.{Text, Stands, Reserved, Sign, Named, Numeral, Word, Passed, IsNotBefore}
+use Rattle.og_reading.specs.Sentences.{IsText}
 use Rattle.og_parse_expr.specs.declared.operator.Sign.{Sign as Operation}
+use Rattle.og_parse_expr.specs.declared.table.TheConstants.{EXPRESSION}
 use Rattle.og_parse_expr.specs.Reading.{plain, joined, variable, variable_expr}
 
 -- ---- operators
@@ -157,3 +159,9 @@ mutual
     no_more_components : {ts : List Spanned} → AreMoreComponents [] ts ts
     more_components : {c : ComponentTree} {cs : List ComponentTree} {ts us vs rest : List Spanned} → Passed mark.Comma ts us → IsComponent c us vs → AreMoreComponents cs vs rest
         → AreMoreComponents (c ∷ cs) ts rest
+
+-- ---- whole texts
+
+-- the tokens are those of this expression and the end of the file, without a violation of class S
+abbrev pub IsExpression : ExprTree → List Spanned → Type 0
+IsExpression e tokens = IsText EXPRESSION IsExpr e tokens

@@ -1,6 +1,6 @@
 -- Expressions as trees of their derivations, by the parts of the table. `inside` reads what stands one expression or operand further
 -- inside; a number of choices is enough for it.
-use Rattle.std.specs.Prelude.{ℕ, zero, suc, Bool, true, false, List, [], ◌∷◌, Option, Some, None, if◌then◌else◌, ◌==◌}
+use Rattle.std.specs.Prelude.{ℕ, zero, suc, Bool, true, false, List, [], ◌∷◌, length, Option, Some, None, if◌then◌else◌, ◌==◌}
 use Rattle.og_base.specs.declared.Place.{Place}
 use Rattle.og_lexer.specs.declared.Spanned.{Spanned}
 use Rattle.og_lexer.specs.declared.Token.{Token}
@@ -320,3 +320,11 @@ braces_at n = (inside n).braces
 -- a variable on its own
 unfoldable pub var_at : ℕ → Take VarTree
 var_at n rest = let start = after rest in variable_at (inside n) (name_in start) [] (behind start)
+
+-- an expression as part 0 of the table
+abbrev pub whole_at : ℕ → Take ExprTree
+whole_at n rest = expr_at n (after rest)
+
+-- the expression of a derivation
+abbrev pub expression_of : List ℕ → List Spanned → ExprTree
+expression_of choices tokens = (whole_at (length choices) (record { choices = choices; tokens = tokens })).0

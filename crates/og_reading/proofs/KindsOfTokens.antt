@@ -104,3 +104,13 @@ text_is (token.Number n) e = absurd (omega arith)
 text_is token.End e = absurd (omega arith)
 text_is (token.AsnKeyword x) e = absurd (omega arith)
 text_is (token.AsnMark x) e = absurd (omega arith)
+
+pub end_is : (t : Token) → kind_of t ≡ 3 → t ≡ token.End
+end_is token.End e = refl
+end_is (token.Name x) e = absurd (name_kind (is_name x.bytes) 3 e (omega arith) (omega arith))
+end_is (token.Keyword w) e = absurd (omega arith)
+end_is (token.Mark m) e = absurd (omega arith)
+end_is (token.Number n) e = absurd (omega arith)
+end_is (token.Text x) e = absurd (omega arith)
+end_is (token.AsnKeyword x) e = absurd (omega arith)
+end_is (token.AsnMark x) e = absurd (omega arith)

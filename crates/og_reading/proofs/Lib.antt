@@ -5,3 +5,7 @@ pub mod Deriving
 pub mod ReadParts
 pub mod WrittenParts
 pub mod Lists
+pub mod Cutting
+pub mod Whole
+pub mod Samples
+pub mod Answered

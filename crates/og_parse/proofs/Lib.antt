@@ -1,0 +1,3 @@
+pub mod ReadUnits
+pub mod WrittenUnits
+pub mod FileAnswers

@@ -1,0 +1,2 @@
+pub mod ReadStates
+pub mod WrittenStates
