@@ -9,8 +9,8 @@ use og_front::one_answer;
 use og_grammar::one_derivation;
 use og_lexer::{one_asn_reading, one_reading};
 
-/// Model files of which one is of SDL/PR are accepted or have a first violation. Any model files have one first violation at most, and none where
-/// they are accepted; it stands in one of them. They have one tree and one model at most.
+/// Model files of which one is of SDL/PR are accepted or have a first violation. Any model files have one first violation at
+/// most, and none where they are accepted; it stands in one of them. They have one tree and one model at most.
 pub fn one_judgement()
     ensures each { (files : List SourceFile) → HasOneProcess files → AreAccepted files ⊎ ((v : Violation) × IsFirstViolation files v) }
     ensures apart { (files : List SourceFile) (v : Violation) → AreAccepted files → IsFirstViolation files v → ⊥ }
