@@ -1,3 +1,3 @@
 pub mod Naming
-mod Parsing
+pub mod Parsing
 pub mod Turns

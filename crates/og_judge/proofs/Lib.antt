@@ -7,4 +7,5 @@ pub mod TypeNames
 pub mod DataPlaces
 pub mod InFiles
 pub mod Parts
-pub mod Alone
+pub mod EachText
+pub mod EachList

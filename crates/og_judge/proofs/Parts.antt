@@ -240,18 +240,18 @@ no_text tokens error none named =
 
 -- ---- classes
 
-pub by_some : (names states limits : Option Violation) (v : Violation) → or_else names (or_else states limits) ≡ Some v
+by_some : (names states limits : Option Violation) (v : Violation) → or_else names (or_else states limits) ≡ Some v
     → (names ≡ Some v) ⊎ ((names ≡ None) × ((states ≡ Some v) ⊎ ((states ≡ None) × (limits ≡ Some v))))
 by_some (Some w) states limits v e = inl e
 by_some None (Some w) limits v e = inr (refl, inl e)
 by_some None None limits v e = inr (refl, inr (refl, e))
 
-pub by_none : (names states limits : Option Violation) → or_else names (or_else states limits) ≡ None → (names ≡ None) × (states ≡ None) × (limits ≡ None)
+by_none : (names states limits : Option Violation) → or_else names (or_else states limits) ≡ None → (names ≡ None) × (states ≡ None) × (limits ≡ None)
 by_none (Some w) states limits e = absurd (let h : Some w ≡ None = e in cc)
 by_none None (Some w) limits e = absurd (let h : Some w ≡ None = e in cc)
 by_none None None limits e = (refl, refl, e)
 
-pub tree_first : (files : List SourceFile) (v : Violation) (system : SystemText) → AreTextOf system 0 files
+tree_first : (files : List SourceFile) (v : Violation) (system : SystemText) → AreTextOf system 0 files
     → (first_of (violations_in Names system) ≡ Some v)
     ⊎ ((first_of (violations_in Names system) ≡ None) × ((first_of (violations_in States system) ≡ Some v) ⊎ ((first_of (violations_in States system) ≡ None) × (first_of (violations_in Limits system) ≡ Some v))))
     → IsFirstAmong (Names ∷ States ∷ Limits ∷ []) files v

@@ -27,9 +27,6 @@ pub record SourceFile : Type 0 where
   pub language : Language
   pub bytes : List ℕ
 
-abbrev pub sdl_file : List ℕ → SourceFile
-sdl_file bytes = record { language = Sdl; bytes = bytes }
-
 -- the model files as the code holds them
 abbrev pub source : ModelFile → SourceFile
 source file = record { language = file.language; bytes = file.bytes.items }

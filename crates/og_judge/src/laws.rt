@@ -1,18 +1,18 @@
 //! Laws of judgements, each as the contract of a function that does nothing.
-ghost use Rattle.std.specs.Prelude.{◌≡◌, ◌⊎◌, ◌<◌, ℕ, List, [], ◌∷◌, length};
+ghost use Rattle.std.specs.Prelude.{◌≡◌, ◌⊎◌, ◌<◌, List, length};
 ghost use Rattle.og_base.specs.declared.Violation.{Violation};
 ghost use Rattle.og_front.specs.declared.syntax.SystemText.{SystemText};
 ghost use Rattle.og_model.specs.declared.Model.{Model};
-ghost use Rattle.og_judge.specs.Judging.{SourceFile, sdl_file, AreTextOf, AreAccepted, IsFirstViolation, HaveModel};
+ghost use Rattle.og_judge.specs.Judging.{SourceFile, HasOneProcess, AreTextOf, AreAccepted, IsFirstViolation, HaveModel};
 
 use og_front::one_answer;
 use og_grammar::one_derivation;
 use og_lexer::{one_asn_reading, one_reading};
 
-/// A single file of SDL/PR is accepted or has a first violation. Any model files have one first violation at most, and none where
-/// they are accepted; it stands in one of them. They have one tree and one model at most.
+/// Model files of which one is of SDL/PR are accepted or have a first violation. Any model files have one first violation at
+/// most, and none where they are accepted; it stands in one of them. They have one tree and one model at most.
 pub fn one_judgement()
-    ensures each { (bytes : List ℕ) → AreAccepted (sdl_file bytes ∷ []) ⊎ ((v : Violation) × IsFirstViolation (sdl_file bytes ∷ []) v) }
+    ensures each { (files : List SourceFile) → HasOneProcess files → AreAccepted files ⊎ ((v : Violation) × IsFirstViolation files v) }
     ensures apart { (files : List SourceFile) (v : Violation) → AreAccepted files → IsFirstViolation files v → ⊥ }
     ensures one { (files : List SourceFile) (v w : Violation) → IsFirstViolation files v → IsFirstViolation files w → v ≡ w }
     ensures among { (files : List SourceFile) (v : Violation) → IsFirstViolation files v → v.place.file < length files }

@@ -1,6 +1,6 @@
 use Rattle.og_judge.proofs.InFiles.{stands_in_a_file}
 use Rattle.og_judge.proofs.Judgements.{one_tree, never_both, one_violation, one_model}
-use Rattle.og_judge.proofs.Alone.{each_alone}
+use Rattle.og_judge.proofs.EachList.{each_list}
 use Rattle.og_judge.proofs.laws.one_judgement.Goals as goal
 
 pub returns-clause-apart : goal.returns-clause-apart
@@ -40,7 +40,12 @@ returns-clause-model c = one_model (record {
 })
 
 pub returns-clause-each : goal.returns-clause-each
-returns-clause-each c = each_alone c.one_answer.ensures.each
+returns-clause-each c = each_list (record {
+  texts = c.one_reading.ensures.each;
+  apart = c.one_reading.ensures.apart;
+  asn_texts = c.one_asn_reading.ensures.each;
+  files = c.one_answer.ensures.each;
+})
 
 pub returns-clause-tree : goal.returns-clause-tree
 returns-clause-tree c = one_tree (record {
