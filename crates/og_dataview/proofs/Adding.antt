@@ -5,13 +5,11 @@ use Rattle.std.specs.List.{flat_map}
 use Rattle.og_names.specs.Folding.{place_of, with_name}
 use Rattle.og_names.proofs.Loops.{Left, left_first, left_more, left_all}
 use Rattle.og_asn1.specs.declared.syntax.Name.{Name}
-use Rattle.og_asn1.specs.declared.syntax.ModuleTree.{ModuleTree}
-use Rattle.og_asn1.specs.declared.syntax.AssignmentTree.{AssignmentTree}
 use Rattle.og_asn1.specs.declared.syntax.EnumTree.{EnumTree}
 use Rattle.og_asn1.specs.declared.syntax.CompTree.{CompTree, out-CompTree}
 use Rattle.og_flat.specs.Flattening.{enumerator_of, enumerators_of}
 use Rattle.og_dataview.specs.Scope.{key}
-use Rattle.og_dataview.specs.View.{name_of_item, names_by_part, names_in_parts, names_in, names_declared_by, with_names}
+use Rattle.og_dataview.specs.View.{name_of_item, names_by_part, names_in_parts, names_in, with_names}
 use Rattle.og_dataview.specs.Naming.{IsFront}
 
 pub front_same : (names : List (List ℕ)) → IsFront names names

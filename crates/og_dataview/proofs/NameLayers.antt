@@ -1,6 +1,5 @@
 -- The names in a type are those that one layer of it says, at any depth, and a table that names are added to keeps its own.
-use Rattle.std.proofs.Common.{◌≡◌, ℕ, zero, suc, ◌+◌, ◌≤◌, max, List, [], ◌∷◌, ◌++◌, map, length, refl, ap, sym, ◌∙◌, le_refl, arith, append_assoc}
-use Rattle.std.specs.List.{flat_map}
+use Rattle.std.proofs.Common.{◌≡◌, ℕ, zero, suc, ◌≤◌, List, [], ◌∷◌, ◌++◌, refl, ap, le_refl, arith}
 use denote.Param.Weighed.{most}
 use Rattle.og_asn1.specs.declared.syntax.Name.{Name}
 use Rattle.og_asn1.specs.declared.syntax.TypeTree.{TypeTree, size-TypeTree}

@@ -35,7 +35,7 @@ use Rattle.og_dataview.specs.declared.view.NamedType.{NamedType}
 use Rattle.og_dataview.specs.declared.view.Constant.{Constant}
 use Rattle.og_dataview.specs.declared.view.DataView.{DataView}
 use Rattle.og_asn1.specs.Reading.{named}
-use Rattle.og_dataview.specs.Violations.{first_violation}
+use Rattle.og_dataview.specs.Violations.{violations, first_violation}
 use Rattle.og_dataview.specs.View.{view_of}
 
 -- ---- texts
@@ -252,7 +252,7 @@ NamesThatAreNotLookedFor =
     × (first_violation (one_module (declares 1 (codes "T") (integer (number 0 ∷ dots ∷ word 2 (codes "MAX") ∷ [])) ∷ [])) ≡ None)
     × (first_violation (one_module (declares 1 (codes "T") (integer (number 0 ∷ dots ∷ word 2 (codes "length") ∷ [])) ∷ [])) ≡ None)
 
--- T-a T-a | T-a T_a | Boolean | { a, a } | { a-b, a-B } | { a (1), b (1) } | one that is spelt as the first and folds as the second
+-- T-a T-a | T-a T_a | Boolean | { a, a } | { a-b, a-B } | { a (1), b (1) }
 abbrev pub NamesTwice : Type 0
 NamesTwice =
     Breaks (declares 1 (codes "T-a") truth ∷ declares 2 (codes "T-a") truth ∷ []) N2 2
@@ -263,6 +263,14 @@ NamesTwice =
     × Breaks (declares 1 (codes "T") (kind (Enumerated (enumerator_with 2 (codes "a") false 1 ∷ enumerator_with 3 (codes "b") false 1 ∷ []))) ∷ []) N2 3
     × Breaks (declares 1 (codes "T") (kind (Enumerated (enumerator_with 2 (codes "a") false 0 ∷ enumerator_with 3 (codes "b") true 0 ∷ []))) ∷ []) N2 3
     × Breaks (declares 1 (codes "T") (kind (Sequence (part 2 (codes "a-b") truth ∷ optional 3 (codes "a-B") truth ∷ []))) ∷ []) N7 3
+
+-- of three names each later one is looked at beside all before it: T-a T-A T-a | { a, b (7), A (7) }
+abbrev pub ThreeNames : Type 0
+ThreeNames =
+    (violations (one_module (declares 1 (codes "T-a") truth ∷ declares 2 (codes "T-A") truth ∷ declares 3 (codes "T-a") truth ∷ []))
+    ≡ record { rule = N7; place = at 2 } ∷ record { rule = N2; place = at 3 } ∷ [])
+    × (violations (one_module (declares 1 (codes "T") (kind (Enumerated (enumerator 2 (codes "a") ∷ enumerator_with 3 (codes "b") false 7 ∷ enumerator_with 4 (codes "A") false 7 ∷ []))) ∷ []))
+    ≡ record { rule = N7; place = at 4 } ∷ record { rule = N2; place = at 4 } ∷ [])
 
 -- a type and a constant, and parts of two types, may have one name
 abbrev pub NamesOfDifferentLists : Type 0

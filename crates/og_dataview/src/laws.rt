@@ -1,6 +1,6 @@
 //! Worked examples, computed from the definitions. Each function does nothing, and its contract says what the definitions give.
 ghost use Rattle.og_dataview.specs.Laws.{EachHasOneAnswer};
-ghost use Rattle.og_dataview.specs.ViewExamples.{FreeNumbersInOrder, NumbersBelowZeroAndOpenOnes, RangesIntersect, OnlyWhatIsLeftCounts, ConstantsAreFollowed, TypesComeByDepth, OpaqueTypesAreFound, NamesWithoutDeclaration, UnknownNames, NamesThatAreNotLookedFor, NamesTwice, NamesOfDifferentLists, ImportsAreChecked};
+ghost use Rattle.og_dataview.specs.ViewExamples.{FreeNumbersInOrder, NumbersBelowZeroAndOpenOnes, RangesIntersect, OnlyWhatIsLeftCounts, ConstantsAreFollowed, TypesComeByDepth, OpaqueTypesAreFound, NamesWithoutDeclaration, UnknownNames, NamesThatAreNotLookedFor, NamesTwice, ThreeNames, NamesOfDifferentLists, ImportsAreChecked};
 
 /// Views of modules.
 pub fn views()
@@ -19,6 +19,7 @@ pub fn violations()
     ensures unknown { UnknownNames }
     ensures not_looked_for { NamesThatAreNotLookedFor }
     ensures twice { NamesTwice }
+    ensures three { ThreeNames }
     ensures apart { NamesOfDifferentLists }
     ensures imports { ImportsAreChecked }
 {}

@@ -21,6 +21,10 @@ pub returns-clause-twice : goal.returns-clause-twice
 unfolding class_of kind_of kind_of_name named the_depth depth fold out out-BaseTree out-CompTree shown hidden shown-the_row-CompTree-0 shape-the_row-CompTree-0 hidden-the_row-CompTree-0 out-ValueNode
 returns-clause-twice c = (refl, refl, refl, refl, refl, refl, refl, refl)
 
+pub returns-clause-three : goal.returns-clause-three
+unfolding class_of kind_of kind_of_name named the_depth depth fold out out-BaseTree
+returns-clause-three c = (refl, refl)
+
 pub returns-clause-apart : goal.returns-clause-apart
 unfolding class_of kind_of kind_of_name named the_depth depth fold out out-BaseTree out-CompTree shown hidden shown-the_row-CompTree-0 shape-the_row-CompTree-0 hidden-the_row-CompTree-0 out-ValueNode
 returns-clause-apart c = (refl, refl)
