@@ -63,8 +63,9 @@ fn read_files<S: Store>(
 {
     let mut contents = Vec::new(alloc);
     for name in names {
-        let bytes = read_all(alloc, store, name.as_str(), LIMIT)?;
-        let language = language_of(name.as_str());
+        let file = name.as_str();
+        let bytes = read_all(alloc, store, file, LIMIT)?;
+        let language = language_of(file);
         keep(&mut contents, ModelFile { language, bytes })?;
     }
     Ok(contents)
