@@ -50,7 +50,6 @@ global_put P xs k g new e same whole =
     let inside : numbers_before_path (k ∷ []) (row ss) ≡ numbers_before k (row ss) + 0 = ap (λ o. numbers_before k (row ss) + before_inside (numbers_before_path []) o) found in
     let place : 0 + numbers_before_path (k ∷ []) (row ss) ≡ globals_before P.structs k P.globals = (let b = lies.before_is in omega (arith, b, inside)) in
     let fits : 0 + count (row ss) ≤ length xs = (let n = count_globals P in omega (arith, n, whole)) in
-
     sym (same_rows _ _
     (row_change k (λ _. new) (all_filled 0 ss xs)
     ∙ ap (change k (λ _. new)) (row_filled ss 0 xs)

@@ -13,11 +13,7 @@ use og_names::NoMemory;
 use std::alloc::{AllocError, Global};
 
 /// The cells of the globals of a program that breaks no load rule, each of them 0.
-pub fn first_cells(
-    alloc: Global,
-    program: &CProgram,
-    layout: &Layout,
-) -> Result<Vec<i64>, NoMemory>
+pub fn first_cells(alloc: Global, program: &CProgram, layout: &Layout) -> Result<Vec<i64>, NoMemory>
     requires layout { layout.now ≡ layout_of program.now }
     requires few { cells_of_globals program.now ≤ 16777216 }
     ensures first { IfOk result (λ cells. trees_of program.now cells.items ≡ first_globals program.now) }
