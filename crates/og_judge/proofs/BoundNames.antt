@@ -12,26 +12,26 @@ use Rattle.og_lexer.specs.declared.Spanned.{Spanned}
 use Rattle.og_lexer.specs.declared.Token.{Token}
 use Rattle.og_lexer.specs.declared.Token.TheVariants as token
 use Rattle.og_names.specs.declared.Word.{Word}
-use Rattle.og_dataview.specs.declared.flat.Bound.{Bound}
-use Rattle.og_dataview.specs.declared.flat.Bound.TheVariants as bound
-use Rattle.og_dataview.specs.declared.flat.Range.{Range}
-use Rattle.og_dataview.specs.declared.flat.Limits.{Limits}
-use Rattle.og_dataview.specs.declared.flat.Limits.TheVariants as limits
-use Rattle.og_dataview.specs.declared.flat.Enumerator.{Enumerator}
-use Rattle.og_dataview.specs.declared.flat.PartNode.{PartNode}
-use Rattle.og_dataview.specs.declared.flat.Node.{Node}
-use Rattle.og_dataview.specs.declared.flat.Node.TheVariants as node
-use Rattle.og_dataview.specs.declared.flat.TypeNode.{TypeNode}
-use Rattle.og_dataview.specs.declared.flat.ConstantNode.{ConstantNode}
-use Rattle.og_dataview.specs.declared.flat.ConstantValue.{ConstantValue}
-use Rattle.og_dataview.specs.declared.flat.ConstantValue.TheVariants as value
-use Rattle.og_dataview.specs.declared.flat.Flat.{Flat}
+use Rattle.og_flat.specs.declared.flat.Bound.{Bound}
+use Rattle.og_flat.specs.declared.flat.Bound.TheVariants as bound
+use Rattle.og_flat.specs.declared.flat.Range.{Range}
+use Rattle.og_flat.specs.declared.flat.Limits.{Limits}
+use Rattle.og_flat.specs.declared.flat.Limits.TheVariants as limits
+use Rattle.og_flat.specs.declared.flat.Enumerator.{Enumerator}
+use Rattle.og_flat.specs.declared.flat.PartNode.{PartNode}
+use Rattle.og_flat.specs.declared.flat.Node.{Node}
+use Rattle.og_flat.specs.declared.flat.Node.TheVariants as node
+use Rattle.og_flat.specs.declared.flat.TypeNode.{TypeNode}
+use Rattle.og_flat.specs.declared.flat.ConstantNode.{ConstantNode}
+use Rattle.og_flat.specs.declared.flat.ConstantValue.{ConstantValue}
+use Rattle.og_flat.specs.declared.flat.ConstantValue.TheVariants as value
+use Rattle.og_flat.specs.declared.flat.Flat.{Flat}
 use Rattle.og_asn1.specs.declared.syntax.Name.{Name}
 use Rattle.og_asn1.specs.declared.syntax.RunTree.{RunTree}
 use Rattle.og_asn1.specs.declared.syntax.SizeTree.{SizeTree}
 use Rattle.og_asn1.specs.declared.syntax.SizeTree.TheVariants as size
 use Rattle.og_asn1.specs.Reading.{named}
-use Rattle.og_dataview.specs.Limits.{Front, RangeFront, is_kind, negative_bound, bound_by, bound_in, with_second, with_first, range_front, ended, range_in, closed, size_in, or_size, or_range, limits_in, limits_of, limits_of_size, is_size_word, is_mark}
+use Rattle.og_flat.specs.Limits.{Front, RangeFront, is_kind, negative_bound, bound_by, bound_in, with_second, with_first, range_front, ended, range_in, closed, size_in, or_size, or_range, limits_in, limits_of, limits_of_size, is_size_word, is_mark}
 use Rattle.og_judge.proofs.TreeNames.{no_place, named_place, AreIn, OptIn, RunIn}
 
 abbrev pub BoundIn : (Place → Type 0) → Bound → Type 0

@@ -7,20 +7,20 @@ use Rattle.og_base.specs.declared.Rule.{Rule}
 use Rattle.og_base.specs.declared.Rule.TheVariants.{N1, N2, N3, N7}
 use Rattle.og_base.specs.declared.Violation.{Violation}
 use Rattle.og_base.specs.Order.{comes_before, sooner, first_from, first_of}
-use Rattle.og_dataview.specs.declared.flat.Bound.{Bound}
-use Rattle.og_dataview.specs.declared.flat.Bound.TheVariants as bound
-use Rattle.og_dataview.specs.declared.flat.Range.{Range}
-use Rattle.og_dataview.specs.declared.flat.Limits.{Limits}
-use Rattle.og_dataview.specs.declared.flat.Limits.TheVariants as limits
-use Rattle.og_dataview.specs.declared.flat.Enumerator.{Enumerator}
-use Rattle.og_dataview.specs.declared.flat.PartNode.{PartNode}
-use Rattle.og_dataview.specs.declared.flat.Node.{Node}
-use Rattle.og_dataview.specs.declared.flat.Node.TheVariants as node
-use Rattle.og_dataview.specs.declared.flat.TypeNode.{TypeNode}
-use Rattle.og_dataview.specs.declared.flat.ConstantNode.{ConstantNode}
-use Rattle.og_dataview.specs.declared.flat.ConstantValue.{ConstantValue}
-use Rattle.og_dataview.specs.declared.flat.ConstantValue.TheVariants as value
-use Rattle.og_dataview.specs.declared.flat.Flat.{Flat}
+use Rattle.og_flat.specs.declared.flat.Bound.{Bound}
+use Rattle.og_flat.specs.declared.flat.Bound.TheVariants as bound
+use Rattle.og_flat.specs.declared.flat.Range.{Range}
+use Rattle.og_flat.specs.declared.flat.Limits.{Limits}
+use Rattle.og_flat.specs.declared.flat.Limits.TheVariants as limits
+use Rattle.og_flat.specs.declared.flat.Enumerator.{Enumerator}
+use Rattle.og_flat.specs.declared.flat.PartNode.{PartNode}
+use Rattle.og_flat.specs.declared.flat.Node.{Node}
+use Rattle.og_flat.specs.declared.flat.Node.TheVariants as node
+use Rattle.og_flat.specs.declared.flat.TypeNode.{TypeNode}
+use Rattle.og_flat.specs.declared.flat.ConstantNode.{ConstantNode}
+use Rattle.og_flat.specs.declared.flat.ConstantValue.{ConstantValue}
+use Rattle.og_flat.specs.declared.flat.ConstantValue.TheVariants as value
+use Rattle.og_flat.specs.declared.flat.Flat.{Flat}
 use Rattle.og_asn1.specs.declared.syntax.Name.{Name}
 use Rattle.og_asn1.specs.declared.syntax.ModuleTree.{ModuleTree}
 use Rattle.og_asn1.specs.declared.syntax.ImportsTree.{ImportsTree}
@@ -28,7 +28,7 @@ use Rattle.og_asn1.specs.declared.syntax.ImportTree.{ImportTree}
 use Rattle.og_asn1.specs.declared.syntax.SymbolTree.{SymbolTree}
 use Rattle.og_asn1.specs.declared.syntax.SymbolTree.TheVariants as symbol
 use Rattle.og_front.proofs.Elements.{each_both, each_more, each_pieces}
-use Rattle.og_dataview.specs.Flattening.{flat_of}
+use Rattle.og_flat.specs.Flattening.{flat_of}
 use Rattle.og_dataview.specs.Following.{is_integer_type}
 use Rattle.og_dataview.specs.Violations.{violated, violated_if, is_spelt_as, folds_as, repeated, repeated_behind, repeated_names, built_in_again, given, given_again, given_behind, repeated_numbers, is_given, looked_up, used_type, used_constant, used_by_bound, used_by_range, used_by_limits, used_as_value, used_by_part, name_in_value, used_by_constant, in_parts, in_node, has_type, has_constant, imported_symbol, symbol_name, first_symbol, imported_from, modules_named, in_import, in_imports, in_module, in_flat, violations, first_violation}
 use Rattle.og_judge.proofs.TreeNames.{no_place, NameIn, OptIn}

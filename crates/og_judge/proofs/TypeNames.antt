@@ -38,17 +38,17 @@ use Rattle.og_asn1.specs.declared.syntax.FractionTree.{FractionTree}
 use Rattle.og_asn1.specs.declared.syntax.RunTree.{RunTree}
 use Rattle.og_asn1.specs.Reading.{Rest, Take, behind, after, choice_in, place_in, word_in, number_in, name_in, maybe, more_of, listed, passed, behind_one, tokens_to, run_in, bracket_in}
 use Rattle.og_asn1.specs.Trees.{digits_at, fraction_at, number_value, chosen_at, named_value, braces_value, node_at, value_by, no_value, value_within, value_at, signed_at, enum_number_at, enum_at, presence_at, part_at, comp_at, comps_at, or_none, some_comps_at, size_at, of_at, sequence_at, set_at, two_runs, one_run, enumerated_at, choice_at, base_by, base_at, tag_mode_at, tag_at, type_by, no_type, type_within, type_at, assignment_at, symbol_at, import_at, imports_at, exports_at, tagging_at, module_at, modules_at, trees_of}
-use Rattle.og_dataview.specs.declared.flat.Enumerator.{Enumerator}
-use Rattle.og_dataview.specs.declared.flat.PartNode.{PartNode}
-use Rattle.og_dataview.specs.declared.flat.Node.{Node}
-use Rattle.og_dataview.specs.declared.flat.Node.TheVariants as node
-use Rattle.og_dataview.specs.declared.flat.TypeNode.{TypeNode}
-use Rattle.og_dataview.specs.declared.flat.ConstantNode.{ConstantNode}
-use Rattle.og_dataview.specs.declared.flat.ConstantValue.{ConstantValue}
-use Rattle.og_dataview.specs.declared.flat.ConstantValue.TheVariants as value
-use Rattle.og_dataview.specs.declared.flat.Flat.{Flat}
-use Rattle.og_dataview.specs.Limits.{limits_of, limits_of_size}
-use Rattle.og_dataview.specs.Flattening.{enumerator_of, enumerators_of, is_open, name_alone, constant_value, default_of, Parts, parts_by, parts_of, nodes_by, nodes_within, nodes_of, with_assignment, with_assignments, with_modules, no_flat, flat_of, last_of, with_part}
+use Rattle.og_flat.specs.declared.flat.Enumerator.{Enumerator}
+use Rattle.og_flat.specs.declared.flat.PartNode.{PartNode}
+use Rattle.og_flat.specs.declared.flat.Node.{Node}
+use Rattle.og_flat.specs.declared.flat.Node.TheVariants as node
+use Rattle.og_flat.specs.declared.flat.TypeNode.{TypeNode}
+use Rattle.og_flat.specs.declared.flat.ConstantNode.{ConstantNode}
+use Rattle.og_flat.specs.declared.flat.ConstantValue.{ConstantValue}
+use Rattle.og_flat.specs.declared.flat.ConstantValue.TheVariants as value
+use Rattle.og_flat.specs.declared.flat.Flat.{Flat}
+use Rattle.og_flat.specs.Limits.{limits_of, limits_of_size}
+use Rattle.og_flat.specs.Flattening.{enumerator_of, enumerators_of, is_open, name_alone, constant_value, default_of, Parts, parts_by, parts_of, nodes_by, nodes_within, nodes_of, with_assignment, with_assignments, with_modules, no_flat, flat_of, last_of, with_part}
 use Rattle.og_judge.proofs.TreeNames.{no_place, NameIn, AreIn, OptIn, RunIn, Made, Makes, if_in, tail_in, name_at, maybe_in, more_in, listed_in, PassesIn, passed_in, behind_one_in, run_made, bracket_made}
 use Rattle.og_judge.proofs.BoundNames.{LimitsIn, SizeIn, limits_of_in, limits_of_size_in}
 
