@@ -2,7 +2,7 @@
 use Rattle.std.proofs.Common.{◌≡◌, ℕ, suc, ◌+◌, Bool, true, false, cond, List, [], ◌∷◌, take, drop, refl, sym, ap, ◌∙◌, arith}
 use Rattle.std.specs.List.{prefix_len, list_all}
 use Rattle.og_csubset.specs.Tokens.{is_digit}
-use Rattle.og_csubset.proofs.Lexing.{cut}
+use Rattle.og_csubset.specs.Lexing.{cut}
 use Rattle.og_csubset.proofs.Lexed.{cut_all}
 
 pub cut-prefix : (p : ℕ → Bool) (bs : List ℕ) → cut p bs ≡ (take (prefix_len p bs) bs, drop (prefix_len p bs) bs)

@@ -8,7 +8,8 @@ use Rattle.std.proofs.lemmas.List.{at_drop_more}
 use Rattle.std.proofs.lemmas.Slice.Eq.{bytes_eq-Decides}
 use Rattle.std.proofs.lemmas.Fmt.{decimal-digits_value, decimal_digit, first_decimal}
 use Rattle.og_csubset.specs.Tokens.{number, is_digit}
-use Rattle.og_csubset.proofs.Lexing.{number_token, own, digit_from}
+use Rattle.og_csubset.specs.Lexing.{number_token}
+use Rattle.og_csubset.proofs.Lexing.{own, digit_from}
 
 -- numbers that are equal up to a limit stay so when digits follow
 pub after-capped : (limit m n : ℕ) (bs : List ℕ) → min m limit ≡ min n limit → min (digits_value_after 10 m bs) limit ≡ min (digits_value_after 10 n bs) limit

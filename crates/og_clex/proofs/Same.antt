@@ -2,7 +2,7 @@
 use Rattle.std.proofs.Common.{◌≡◌, ◌==◌, refl, ap₂}
 use denote.Enum.Bare.{sameb}
 use denote.Enum.Declared.{tag_of}
-use Rattle.og_csubset.proofs.Reading.{keyword_number, mark_number}
+use Rattle.og_csubset.specs.Reading.{keyword_number, mark_number}
 use Rattle.og_clex.specs.contracts.token.Keyword as keywords
 use Rattle.og_clex.specs.contracts.token.Mark as marks
 use Rattle.og_clex.specs.declared.token.Keyword.{Keyword}

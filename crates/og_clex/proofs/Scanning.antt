@@ -11,11 +11,12 @@ use Rattle.og_csubset.specs.Nesting.{Nest, outermost, after_token, after_tokens,
 use Rattle.og_csubset.specs.Wrong.{BeginsProgram, GoesWrongBehind}
 use Rattle.og_csubset.specs.Refusals.{IsBad, IsTooDeep, place_behind}
 use Rattle.og_csubset.proofs.Seen.{nothing, Some-same}
-use Rattle.og_csubset.proofs.Lexing.{cut, StopsAt, cut-append, no_space_first, first_token, next_token, next-begins, nothing_first}
+use Rattle.og_csubset.specs.Lexing.{cut, StopsAt, first_token, next_token}
+use Rattle.og_csubset.proofs.Lexing.{cut-append, no_space_first, next-begins, nothing_first}
 use Rattle.og_csubset.proofs.Lexed.{first_stands, begins-next, cut_joined, cut_all, cut_stops}
 use Rattle.og_csubset.proofs.Text.{some_byte}
 use Rattle.og_csubset.proofs.Nested.{depth}
-use Rattle.og_csubset.proofs.Recognizer.{Symbols, step, run, may_end, program_symbols}
+use Rattle.og_csubset.specs.Recognizer.{Symbols, step, run, may_end, program_symbols}
 use Rattle.og_csubset.proofs.Viable.{viable, refused_next, ended_program, no_program, run-more}
 use Rattle.og_csubset.proofs.Judged.{cuts_more, no_space}
 use Rattle.og_clex.specs.Moves.{Steps}

@@ -2,7 +2,7 @@
 use Rattle.std.proofs.Common.{◌≡◌, true, false, List, [], ◌∷◌, ◌++◌, reverse, Some, None, ap, ◌∙◌}
 use Rattle.std.proofs.lemmas.List.{reverse-append, reverse-reverse, map-append}
 use Rattle.og_csubset.specs.Tokens.{Token}
-use Rattle.og_csubset.proofs.Recognizer.{Symbols, next, step, is_empty, may_end}
+use Rattle.og_csubset.specs.Recognizer.{Symbols, next, step, is_empty, may_end}
 use Rattle.og_clex.specs.declared.machine.Symbol.{Symbol}
 use Rattle.og_clex.specs.Views.{symbol_view, symbols_view}
 use Rattle.og_clex.specs.Moves.{coming}

@@ -1,8 +1,8 @@
 -- What the code gives back, against the functions that it computes. Each word takes what was returned and what there is.
 use Rattle.std.specs.Prelude.{◌≡◌, ◌==◌, Bool, true, false, List, Option, Some, None, reverse}
 use Rattle.og_csubset.specs.Tokens.{Token, keyword, mark, Keyword, Mark}
-use Rattle.og_csubset.proofs.Reading.{keyword_number, mark_number}
-use Rattle.og_csubset.proofs.Recognizer as symbols
+use Rattle.og_csubset.specs.Reading.{keyword_number, mark_number}
+use Rattle.og_csubset.specs.Recognizer as symbols
 use Rattle.og_clex.specs.declared.machine.Symbol.{Symbol}
 use Rattle.og_clex.specs.Views.{symbols_view}
 

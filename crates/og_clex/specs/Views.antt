@@ -1,7 +1,7 @@
 -- What the tokens and symbols of the code are among those of the definitions.
 use Rattle.std.specs.Prelude.{List, map}
 use Rattle.og_csubset.specs.Tokens as tokens
-use Rattle.og_csubset.proofs.Recognizer as symbols
+use Rattle.og_csubset.specs.Recognizer as symbols
 use Rattle.og_clex.specs.declared.token.Keyword.{Keyword}
 use Rattle.og_clex.specs.declared.token.Keyword.TheVariants as keyword
 use Rattle.og_clex.specs.declared.token.Mark.{Mark}

@@ -5,7 +5,7 @@ ghost use Rattle.std.specs.Str.{bytes_eq};
 ghost use Rattle.og_clex.specs.Words.{keyword_among};
 ghost use Rattle.std.specs.Str.Parse.{digits_value};
 ghost use Rattle.og_csubset.specs.Tokens.{is_letter, is_digit, is_word_byte, is_space, is_reserved, keyword_spelling};
-ghost use Rattle.og_csubset.proofs.Lexing.{first_token, word_token, keyword_of, number_token, sign_token, with_rest, longer};
+ghost use Rattle.og_csubset.specs.Lexing.{first_token, word_token, keyword_of, number_token, sign_token, with_rest, longer};
 ghost use Rattle.og_clex.specs.Views.{token_view, keyword_view};
 
 use crate::token::{Digits, Keyword, Mark, Token};
@@ -15,7 +15,7 @@ use sqlite_items::Items;
 use std::alloc::Global;
 
 /// The longest token that the bytes begin with, and the bytes behind it. Words and numbers are read once.
-#[tactic(auto, using(crate::proofs::Cuts::cuts), unfolding(og_csubset::proofs::Lexing::first_token))]
+#[tactic(auto, using(crate::proofs::Cuts::cuts), unfolding(og_csubset::specs::Lexing::first_token))]
 pub fn first_token(alloc: Global, bytes: &[u8]) -> Result<Option<(Token, &[u8])>, NoMemory>
     ensures { IfOk result (λ found. option_map (λ p. (token_view p.0, p.1.now)) found ≡ first_token bytes.now) }
 {
@@ -72,7 +72,7 @@ fn digits_len(bytes: &[u8]) -> usize
 }
 
 /// The token of a word: a keyword, a name, or none where C99 has the word for something else.
-#[tactic(auto, unfolding(og_csubset::proofs::Lexing::word_token))]
+#[tactic(auto, unfolding(og_csubset::specs::Lexing::word_token))]
 fn word_token(alloc: Global, word: &[u8]) -> Result<Option<Token>, NoMemory>
     ensures { IfOk result (λ found. option_map token_view found ≡ word_token word.now) }
 {
@@ -156,7 +156,7 @@ const KEYWORDS: [Keyword; 11] = [
 ];
 
 /// The keyword that the word is.
-#[tactic(auto, unfolding(og_csubset::proofs::Lexing::keyword_of))]
+#[tactic(auto, unfolding(og_csubset::specs::Lexing::keyword_of))]
 fn keyword_of(word: &[u8]) -> Option<Token>
     ensures { option_map token_view result ≡ keyword_of word.now }
 {
@@ -193,7 +193,7 @@ fn keyword_text(keyword: Keyword) -> &'static [u8]
 }
 
 /// The token of a run of digits: none where a zero leads or where the number is past 2^63 - 1.
-#[tactic(auto, using(crate::proofs::Numerals::numerals), unfolding(og_csubset::proofs::Lexing::number_token))]
+#[tactic(auto, using(crate::proofs::Numerals::numerals), unfolding(og_csubset::specs::Lexing::number_token))]
 fn number_token(digits: &[u8]) -> Option<Token>
     requires some { 0 < length digits.now }
     requires all { list_all is_digit digits.now ≡ true }
@@ -226,7 +226,7 @@ fn number_value(digits: &[u8]) -> u64
 }
 
 /// The mark, operator or relation that begins with this byte, with the bytes behind it.
-#[tactic(auto, unfolding(og_csubset::proofs::Lexing::sign_token))]
+#[tactic(auto, unfolding(og_csubset::specs::Lexing::sign_token))]
 fn sign_token(first: u8, rest: &[u8]) -> Option<(Token, &[u8])>
     ensures { option_map (λ p. (token_view p.0, p.1.now)) result ≡ sign_token first rest.now }
 {

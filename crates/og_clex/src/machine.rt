@@ -2,8 +2,8 @@
 //! tree and knows no levels of operators. A token that it refuses is the first with which no program goes on.
 ghost use Rattle.std.specs.Prelude.{◌≡◌, ◌++◌, [], Some, None, if◌then◌else◌, option_map, IfOk, OnOk};
 ghost use Rattle.og_clex.specs.Moves.{is_keyword, is_mark};
-ghost use Rattle.og_csubset.proofs.Recognizer.{a_member, members, globals};
-ghost use Rattle.og_csubset.proofs.Recognizer.{next, next_keyword, next_mark, next_this, next_size, next_relation, next_name, next_number, next_sign, next_path, next_bracket, next_sum, next_operand, next_more, next_constant, next_cases, next_named, next_statements, next_typed, next_member_rest, next_structs, next_head, next_declarations, next_functions, step, may_end, is_empty};
+ghost use Rattle.og_csubset.specs.Recognizer.{a_member, members, globals};
+ghost use Rattle.og_csubset.specs.Recognizer.{next, next_keyword, next_mark, next_this, next_size, next_relation, next_name, next_number, next_sign, next_path, next_bracket, next_sum, next_operand, next_more, next_constant, next_cases, next_named, next_statements, next_typed, next_member_rest, next_structs, next_head, next_declarations, next_functions, step, may_end, is_empty};
 ghost use Rattle.og_clex.specs.Views.{token_view, keyword_view, mark_view, symbol_view, symbols_view};
 ghost use Rattle.og_clex.specs.Moves.{coming, Steps};
 

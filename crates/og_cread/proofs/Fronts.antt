@@ -13,7 +13,7 @@ use Rattle.og_csubset.specs.declared.COp.TheVariants.{Sub}
 use Rattle.og_csubset.specs.declared.CRel.{CRel}
 use Rattle.og_csubset.specs.Tokens.{Token, name, number, operator, relation, keyword, mark, Keyword, if_, goto_, switch_, return_, int64_t, Mark, close_brace, open_square, close_square, open_round, close_round, semicolon, colon, question, dot, equals}
 use Rattle.og_csubset.specs.Spelling.{word, least, is_sum, is_product}
-use Rattle.og_csubset.proofs.Reading.{Found, Reader, and_then, or_else, at_mark, at_keyword, at_name, at_number, at_relation, mark_number, keyword_number, negated, literal_at, least_at, least_end, bracket_end, path_at, operand_at, signed_at, product_rest, product_at, sum_rest, sum_at, number_at, test_at, constant_at, case_at, named_at, goto_at, if_at, switch_at, return_at, statement_at, type_at, member_end, member_at, struct_end, struct_at, global_at, head_at, event_at, function_at, whole, program_at, read_tokens}
+use Rattle.og_csubset.specs.Reading.{Found, Reader, and_then, or_else, at_mark, at_keyword, at_name, at_number, at_relation, mark_number, keyword_number, negated, literal_at, least_at, least_end, bracket_end, path_at, operand_at, signed_at, product_rest, product_at, sum_rest, sum_at, number_at, test_at, constant_at, case_at, named_at, goto_at, if_at, switch_at, return_at, statement_at, type_at, member_end, member_at, struct_end, struct_at, global_at, head_at, event_at, function_at, whole, program_at, read_tokens}
 use Rattle.og_cread.specs.Trees.{mark_at, keyword_at, name_at, digits_at, relation_at, operator_at, found_or, literal_front, this_literal_front, sign_front, least_front, signed_literal_front, number_then_front, choice_front, behind_front, bracket_front, path_front, place_front, operand_front, signed_front, product_rest_front, product_front, sum_rest_front, number_front, test_front, label_front, jump_front, constant_front, case_front, assign_front, call_front, named_front, if_front, default_front, switch_front, word_statement_front, statement_front, type_front, size_front, member_front, some_members, members_front, struct_front, global_front, head_front, event_front, function_front, program_front, tree_of}
 
 kept : {B : Type 0} (b : Bool) (ts : List Token) (go : List Token → Found B)

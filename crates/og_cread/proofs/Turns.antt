@@ -2,7 +2,7 @@
 use Rattle.std.proofs.Common.{◌≡◌, ℕ, zero, suc, ◌-◌, ◌+◌, ◌≤◌, ◌<◌, List, [], ◌∷◌, ◌++◌, length, Some, None, refl, sym, ap, ◌∙◌, append_assoc, arith}
 use Rattle.std.proofs.lemmas.List.{append-nil}
 use Rattle.og_csubset.specs.Tokens.{Token}
-use Rattle.og_csubset.proofs.Reading.{Found, Reader, and_then, each_at, whole}
+use Rattle.og_csubset.specs.Reading.{Found, Reader, and_then, each_at, whole}
 
 -- what was read before, and what is still read
 abbrev pub with_front : {X : Type 0} → List X → Found (List X) → Found (List X)

@@ -22,7 +22,7 @@ use Rattle.og_csubset.specs.declared.COp.TheVariants.{Sub}
 use Rattle.og_csubset.specs.declared.CRel.{CRel}
 use Rattle.og_csubset.specs.Tokens.{Token, name, number, operator, relation, Keyword, typedef_, struct_, void_, if_, goto_, switch_, case_, default_, return_, int64_t, INT64_C, Mark, open_brace, close_brace, open_square, close_square, open_round, close_round, semicolon, colon, question, dot, equals}
 use Rattle.og_csubset.specs.Spelling.{word, least, is_sum, is_product}
-use Rattle.og_csubset.proofs.Reading.{Found, Reader, and_then, or_else, negated, each_at, whole}
+use Rattle.og_csubset.specs.Reading.{Found, Reader, and_then, or_else, negated, each_at, whole}
 use Rattle.og_clex.specs.Moves.{is_keyword, is_mark}
 use Rattle.og_cread.specs.declared.take.TreeError.{TreeError}
 use Rattle.og_cread.specs.declared.take.TreeError.TheVariants.{NoTree, NoMemory}

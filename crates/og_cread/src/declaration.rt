@@ -2,7 +2,7 @@
 ghost use Rattle.std.specs.Prelude.{◌≡◌, IfOk, option_map};
 ghost use Rattle.og_csubset.specs.Spelling.{IsProgram};
 ghost use Rattle.og_clex.specs.Told.{IsSomeProgram};
-ghost use Rattle.og_csubset.proofs.Reading.{each_at};
+ghost use Rattle.og_csubset.specs.Reading.{each_at};
 ghost use Rattle.og_cread.specs.Trees.{Gives, type_front, size_front, member_front, members_front, struct_front, global_front, head_front, event_front, statement_front, function_front, program_front, tree_of};
 ghost use Rattle.og_clex.specs.Views.{tokens_view};
 

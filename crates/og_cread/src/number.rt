@@ -1,7 +1,7 @@
 //! The literals of a text, and the parts of expressions that hold boxed ones.
 ghost use Rattle.std.specs.Prelude.{◌≡◌, ℕ, suc, ◌^◌, ◌<◌, pos, IfOk, IfSome, MatchOption, option_map};
 ghost use Rattle.og_csubset.specs.declared.CExpr.{Minus, Op, Pick};
-ghost use Rattle.og_csubset.proofs.Reading.{negated};
+ghost use Rattle.og_csubset.specs.Reading.{negated};
 ghost use Rattle.og_cread.specs.Trees.{literal_front, this_literal_front, sign_front, least_front, signed_literal_front};
 ghost use Rattle.og_clex.specs.Views.{tokens_view};
 

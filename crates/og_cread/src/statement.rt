@@ -1,6 +1,6 @@
 //! Statements (C99 6.8). `depth` bounds how many brackets stand one inside the other, and how often a repetition goes round.
 ghost use Rattle.std.specs.Prelude.{◌≡◌, option_map};
-ghost use Rattle.og_csubset.proofs.Reading.{each_at};
+ghost use Rattle.og_csubset.specs.Reading.{each_at};
 ghost use Rattle.og_cread.specs.Trees.{Gives, label_front, jump_front, constant_front, case_front, assign_front, call_front, named_front, if_front, default_front, switch_front, word_statement_front, statement_front};
 ghost use Rattle.og_clex.specs.Views.{tokens_view};
 

@@ -14,7 +14,7 @@ use Rattle.og_csubset.specs.declared.COp.TheVariants.{Add, Sub, Mul, Div, Rem}
 use Rattle.og_csubset.specs.Tokens.{Token, name, number, operator, relation, keyword, mark, goto_, default_, open_brace, close_brace, open_square, close_square, open_round, close_round, semicolon, colon, question, dot, equals}
 use Rattle.og_csubset.specs.Spelling.{IsSum, sum, SumGoesOn, sum_ends, add, IsProduct, product, ProductGoesOn, product_ends, multiply, IsSigned, positive, negative, minus_zero, unsigned, minus, IsOperand, read, bracket, pick, least_number, test, place, IsPath, path_ends, member, index, Each, none, one_more, IsConstant, constant, negative_constant, least_constant, IsCase, case_goto, IsStatement, assign, if_goto, goto, label, switch, call, return, number_type, struct_type, IsMember, single, array, IsStruct, structure, IsGlobal, global, IsEvent, event, IsFunction, function, IsProgram, program}
 use Rattle.og_csubset.proofs.Complete.{level, sum_rest_level, product_rest_level}
-use Rattle.og_csubset.proofs.Recognizer.{Symbol, Symbols, a_keyword, a_mark, a_relation, a_sum, more, an_operand, a_path, bracket_rest, a_constant, cases, named_rest, statements, a_member, members, structs, globals, declarations, functions, accepts, program_symbols, jump_rest}
+use Rattle.og_csubset.specs.Recognizer.{Symbol, Symbols, a_keyword, a_mark, a_relation, a_sum, more, an_operand, a_path, bracket_rest, a_constant, cases, named_rest, statements, a_member, members, structs, globals, declarations, functions, accepts, program_symbols, jump_rest}
 
 -- where nothing follows that a repetition takes it is left out
 more_ends : (S : Symbols) (ts : List Token) → level ts ≡ 3 → accepts (more ∷ S) ts ≡ accepts S ts

@@ -22,7 +22,7 @@ use Rattle.og_csubset.specs.Tokens.{Token, name, number, operator, relation, key
 use Rattle.og_csubset.specs.Spelling.{word, least, literal, least_text, is_sum, is_product, IsSum, sum, SumGoesOn, sum_ends, add, IsProduct, product, ProductGoesOn, product_ends, multiply, IsSigned, positive, negative, minus_zero, unsigned, minus, IsOperand, read, bracket, pick, least_number, IsTest, test, IsPlace, place, IsPath, path_ends, member, index, Each, none, one_more, IsConstant, constant, negative_constant, least_constant, IsCase, case_goto, IsStatement, assign, if_goto, goto, label, switch, call, return, IsType, number_type, struct_type, IsMember, single, array, IsStruct, structure, IsGlobal, global, IsEvent, event, IsFunction, function, IsProgram, program, CSpells}
 use Rattle.og_csubset.proofs.Lexing.{HasTokens-unique}
 use Rattle.og_csubset.proofs.Seen.{not_least, Some-same}
-use Rattle.og_csubset.proofs.Reading.{Found, Reader, least_at, negated, bracket_end, path_at, operand_at, signed_at, product_rest, product_at, sum_rest, sum_at, number_at, test_at, each_at, constant_at, case_at, named_at, goto_at, if_at, switch_at, return_at, statement_at, type_at, member_end, member_at, struct_end, struct_at, global_at, head_at, event_at, function_at, program_at, read_tokens}
+use Rattle.og_csubset.specs.Reading.{Found, Reader, least_at, negated, bracket_end, path_at, operand_at, signed_at, product_rest, product_at, sum_rest, sum_at, number_at, test_at, each_at, constant_at, case_at, named_at, goto_at, if_at, switch_at, return_at, statement_at, type_at, member_end, member_at, struct_end, struct_at, global_at, head_at, event_at, function_at, program_at, read_tokens}
 
 -- what a text of a number can go on with: at 0 a selector, at 1 an operator of a product, at 2 one of a sum, at 3 none
 abbrev pub operator_level : COp → ℕ

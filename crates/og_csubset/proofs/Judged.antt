@@ -6,11 +6,12 @@ use Rattle.og_csubset.specs.declared.CProgram.{CProgram}
 use Rattle.og_csubset.specs.Tokens.{Token, spelling, is_space, Begins, Cuts, first_line}
 use Rattle.og_csubset.specs.Spelling.{IsProgram, CSpells}
 use Rattle.og_csubset.specs.Wrong.{BeginsProgram, BeginsWithNoSpace, GoesWrong, in_first_line, behind}
-use Rattle.og_csubset.proofs.Lexing.{cut, StopsAt, next_token, next-begins, nothing_first}
+use Rattle.og_csubset.specs.Lexing.{cut, StopsAt, next_token}
+use Rattle.og_csubset.proofs.Lexing.{next-begins, nothing_first}
 use Rattle.og_csubset.proofs.Lexed.{begins-next, cut_joined, cut_all, cut_stops}
 use Rattle.og_csubset.proofs.Seen.{nothing, Some-same}
 use Rattle.og_csubset.proofs.Text.{behind as behind_bytes, behind_sound, behind_complete, begins_shrinks}
-use Rattle.og_csubset.proofs.Recognizer.{Symbols, step, run, may_end, program_symbols}
+use Rattle.og_csubset.specs.Recognizer.{Symbols, step, run, may_end, program_symbols}
 use Rattle.og_csubset.proofs.Viable.{viable, refused_next, ended_program, no_program, run-more}
 
 -- one token more that the bytes begin with

@@ -8,7 +8,7 @@ use Rattle.std.proofs.lemmas.Slice.Eq.{bytes_eq-Decides}
 use Rattle.og_csubset.specs.declared.COp.TheVariants.{Add, Sub, Mul, Div, Rem}
 use Rattle.og_csubset.specs.declared.CRel.TheVariants.{Eq, Ne, Lt, Le, Gt, Ge}
 use Rattle.og_csubset.specs.Tokens.{Keyword, typedef_, struct_, void_, if_, goto_, switch_, case_, default_, return_, int64_t, INT64_C, open_brace, close_brace, open_square, close_square, open_round, close_round, semicolon, colon, question, dot, equals, Token, name, number, operator, relation, keyword, mark, spelling, keyword_spelling, is_letter, is_digit, is_word_byte, is_space, is_word, is_reserved, IsToken, joins, MayFollow, Begins}
-use Rattle.og_csubset.proofs.Lexing.{cut, StopsAt, keyword_of, word_token, number_token, with_rest, longer, sign_token, first_token, next_token}
+use Rattle.og_csubset.specs.Lexing.{cut, StopsAt, keyword_of, word_token, number_token, with_rest, longer, sign_token, first_token, next_token}
 use Rattle.og_csubset.proofs.Seen.{nothing, Some-same, seen_cond}
 
 -- what the cut gives

@@ -1,5 +1,4 @@
 pub mod Lexing
-pub mod Reading
 pub mod Seen
 pub mod Complete
 pub mod Sound
@@ -26,7 +25,6 @@ pub mod Forms
 pub mod Steady
 pub mod Layouts
 pub mod Beginnings
-pub mod Recognizer
 pub mod Accepted
 pub mod Recognized
 pub mod Viable

@@ -10,7 +10,8 @@ use Rattle.og_csubset.specs.Spelling.{CSpells}
 use Rattle.og_csubset.specs.Nesting.{Nest, outermost, after_token, nesting_from, nesting, IsWithinNesting, PassesNesting}
 use Rattle.og_csubset.specs.Wrong.{BeginsWithNoSpace, GoesWrongBehind, GoesWrong, in_first_line, behind}
 use Rattle.og_csubset.specs.Refusals.{IsTooDeep, IsBad}
-use Rattle.og_csubset.proofs.Lexing.{cut, cut-append, same_first, no_space_first}
+use Rattle.og_csubset.specs.Lexing.{cut}
+use Rattle.og_csubset.proofs.Lexing.{cut-append, same_first, no_space_first}
 use Rattle.og_csubset.proofs.Text.{some_byte}
 use Rattle.og_csubset.proofs.Nested.{Passes, depth, first_within, others_within, past_in, past_somewhere}
 use Rattle.og_csubset.proofs.WrongPlace.{GoesWrong-unique, spelt_or_wrong, stops}

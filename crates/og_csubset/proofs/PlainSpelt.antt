@@ -24,7 +24,7 @@ use Rattle.og_csubset.specs.Tokens.{Token, operator, relation, mark, close_brace
 use Rattle.og_csubset.specs.Spelling.{literal, least_text, is_sum, is_product, IsSum, sum, SumGoesOn, sum_ends, add, IsProduct, product, ProductGoesOn, product_ends, multiply, IsSigned, positive, negative, minus_zero, unsigned, minus, IsOperand, read, bracket, pick, least_number, IsTest, test, IsPlace, place, IsPath, path_ends, member, index, Each, none, one_more, IsConstant, constant, negative_constant, least_constant, IsCase, case_goto, IsStatement, assign, if_goto, goto, label, switch, call, return, IsType, number_type, struct_type, IsMember, single, array, IsStruct, structure, IsGlobal, global, IsEvent, event, IsFunction, function, IsProgram, program}
 use Rattle.og_csubset.specs.Plain.{Text, Piece, piece, bracketed, shown, number_piece, is_value, behind_sign, is_least_sum, operation, op_piece, joined, plain_piece, plain_place, plain_test, plain_number, each, plain_constant, plain_case, plain_statement, plain_type, plain_member, plain_struct, plain_global, plain_event, plain_function, plain_tokens, IsSize, HasSizes, HasMember, HasMembers}
 use Rattle.og_csubset.proofs.Seen.{nothing, Some-same}
-use Rattle.og_csubset.proofs.Reading.{number_at, sum_at}
+use Rattle.og_csubset.specs.Reading.{number_at, sum_at}
 use Rattle.og_csubset.proofs.Complete.{sum_complete, least_sum}
 use Rattle.og_csubset.proofs.Sizes.{op_left, op_right, minus_part, pick_first, pick_second, pick_test, read_place, test_left, test_right, Within, place_within, at_part}
 use Rattle.og_csubset.proofs.PlainTexts.{plain_step, piece-Number, piece-Read, piece-Minus, piece-Op, piece-Pick, step-Member, step-At, place-text, test-text}

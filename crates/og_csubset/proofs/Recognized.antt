@@ -17,12 +17,12 @@ use Rattle.og_csubset.specs.declared.COp.TheVariants.{Add, Sub, Mul, Div, Rem}
 use Rattle.og_csubset.specs.declared.CRel.{CRel}
 use Rattle.og_csubset.specs.Tokens.{Token, name, number, operator, relation, keyword, mark, Keyword, typedef_, struct_, void_, if_, goto_, switch_, case_, default_, return_, int64_t, INT64_C, Mark, open_brace, close_brace, open_square, close_square, open_round, close_round, semicolon, colon, question, dot, equals}
 use Rattle.og_csubset.specs.Spelling.{word, least, literal, least_text, is_sum, is_product, IsSum, IsProduct, IsSigned, positive, negative, minus_zero, unsigned, minus, IsOperand, read, bracket, pick, least_number, IsTest, test, place, IsPath, path_ends, member, index, Each, none, one_more, IsConstant, constant, negative_constant, least_constant, IsCase, case_goto, IsStatement, assign, if_goto, goto, label, switch, call, return, IsType, number_type, struct_type, IsMember, single, array, IsStruct, structure, IsGlobal, global, IsEvent, event, IsFunction, function, IsProgram, program}
-use Rattle.og_csubset.proofs.Reading.{Found, least_at, mark_number, keyword_number, number_at, sum_at, negated}
+use Rattle.og_csubset.specs.Reading.{Found, least_at, mark_number, keyword_number, number_at, sum_at, negated}
 use Rattle.og_csubset.proofs.Seen.{Some-same, seen_least, least_missed, same_mark_number, same_keyword_number}
 use Rattle.og_csubset.proofs.Complete.{sum_complete, least_sum, sum_shrinks, signed_shrinks, case_shrinks, statement_shrinks, member_shrinks, struct_shrinks, global_shrinks, function_shrinks}
 use Rattle.og_csubset.proofs.Sound.{on}
 use Rattle.og_csubset.proofs.PlainSpelt.{to_product, to_sum, sum_on, product_on}
-use Rattle.og_csubset.proofs.Recognizer.{Symbol, Symbols, a_keyword, a_mark, a_sign, a_name, a_number, this_number, a_size, a_relation, a_sum, more, an_operand, a_path, bracket_rest, a_constant, cases, named_rest, statements, member_rest, a_member, members, structs, globals, head_rest, declarations, functions, step, step_on, and_goes_on, accepts, program_symbols, literal_rest, least_rest, jump_rest, head}
+use Rattle.og_csubset.specs.Recognizer.{Symbol, Symbols, a_keyword, a_mark, a_sign, a_name, a_number, this_number, a_size, a_relation, a_sum, more, an_operand, a_path, bracket_rest, a_constant, cases, named_rest, statements, member_rest, a_member, members, structs, globals, head_rest, declarations, functions, step, step_on, and_goes_on, accepts, program_symbols, literal_rest, least_rest, jump_rest, head}
 
 no : {C : Type 0} → ◌≡◌ {A = Bool} false true → C
 no h = absurd (true≢false (sym h))

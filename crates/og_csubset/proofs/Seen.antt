@@ -6,7 +6,7 @@ use Rattle.og_csubset.specs.declared.COp.TheVariants.{Add, Sub, Mul, Div, Rem}
 use Rattle.og_csubset.specs.declared.CRel.{CRel}
 use Rattle.og_csubset.specs.Tokens.{Token, name, number, operator, relation, keyword, mark, Keyword, typedef_, struct_, void_, if_, goto_, switch_, case_, default_, return_, int64_t, INT64_C, Mark, open_brace, close_brace, open_square, close_square, open_round, close_round, semicolon, colon, question, dot, equals}
 use Rattle.og_csubset.specs.Spelling.{least, literal, least_text}
-use Rattle.og_csubset.proofs.Reading.{Found, and_then, or_else, mark_number, keyword_number, at_mark, at_keyword, at_name, at_number, at_relation, literal_at, least_end, least_at}
+use Rattle.og_csubset.specs.Reading.{Found, and_then, or_else, mark_number, keyword_number, at_mark, at_keyword, at_name, at_number, at_relation, literal_at, least_end, least_at}
 
 mark_of : ℕ → Mark
 mark_of zero = open_brace

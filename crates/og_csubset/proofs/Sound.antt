@@ -18,7 +18,7 @@ use Rattle.og_csubset.specs.declared.CTest.{CTest}
 use Rattle.og_csubset.specs.declared.COp.TheVariants.{Add, Sub, Mul, Div, Rem}
 use Rattle.og_csubset.specs.Tokens.{Token, name, number, operator, relation, keyword, mark, typedef_, struct_, void_, if_, goto_, switch_, case_, default_, return_, int64_t, open_brace, close_brace, open_square, close_square, open_round, close_round, semicolon, colon, question, dot, equals}
 use Rattle.og_csubset.specs.Spelling.{word, least, literal, IsSum, sum, SumGoesOn, sum_ends, add, IsProduct, product, ProductGoesOn, product_ends, multiply, IsSigned, positive, negative, minus_zero, unsigned, minus, IsOperand, read, bracket, pick, least_number, IsTest, test, place, IsPath, path_ends, member, index, Each, none, one_more, IsConstant, constant, negative_constant, least_constant, IsCase, case_goto, IsStatement, assign, if_goto, goto, label, switch, call, return, IsType, number_type, struct_type, IsMember, single, array, IsStruct, structure, IsGlobal, global, IsEvent, event, IsFunction, function, IsProgram, program}
-use Rattle.og_csubset.proofs.Reading.{Found, Reader, and_then, or_else, at_mark, literal_at, least_at, negated, bracket_end, path_at, operand_at, signed_at, product_rest, product_at, sum_rest, sum_at, number_at, test_at, each_step, each_at, constant_at, case_at, named_at, goto_at, if_at, switch_at, return_at, statement_at, type_at, member_end, member_at, struct_end, struct_at, global_at, head_at, event_at, function_at, whole, program_at, read_tokens}
+use Rattle.og_csubset.specs.Reading.{Found, Reader, and_then, or_else, at_mark, literal_at, least_at, negated, bracket_end, path_at, operand_at, signed_at, product_rest, product_at, sum_rest, sum_at, number_at, test_at, each_step, each_at, constant_at, case_at, named_at, goto_at, if_at, switch_at, return_at, statement_at, type_at, member_end, member_at, struct_end, struct_at, global_at, head_at, event_at, function_at, whole, program_at, read_tokens}
 use Rattle.og_csubset.proofs.Seen.{nothing, Some-same, seen_then, seen_else, seen_cond, seen_mark, seen_keyword, seen_name, seen_number, seen_relation, seen_literal, seen_least, least_missed}
 
 -- what holds of what was found holds of it by any name

@@ -5,9 +5,10 @@ use Rattle.og_csubset.specs.declared.CProgram.{CProgram}
 use Rattle.og_csubset.specs.Tokens.{Token, spelling, is_space, IsToken, Begins, Lexes, HasTokens, first_line}
 use Rattle.og_csubset.specs.Nesting.{nesting, HasNesting}
 use Rattle.og_csubset.specs.Spelling.{CSpells}
-use Rattle.og_csubset.proofs.Lexing.{first_token, next_token, next-begins, next-blank, token_found}
+use Rattle.og_csubset.specs.Lexing.{first_token, next_token}
+use Rattle.og_csubset.proofs.Lexing.{next-begins, next-blank, token_found}
 use Rattle.og_csubset.proofs.Lexed.{begins-next}
-use Rattle.og_csubset.proofs.Reading.{read_tokens}
+use Rattle.og_csubset.specs.Reading.{read_tokens}
 use Rattle.og_csubset.proofs.Seen.{nothing, Some-same}
 use Rattle.og_csubset.proofs.Complete.{read_complete}
 use Rattle.og_csubset.proofs.Sound.{read_sound}

@@ -7,8 +7,8 @@ use Rattle.og_csubset.specs.declared.COp.TheVariants.{Add, Sub, Mul, Div, Rem}
 use Rattle.og_csubset.specs.Nesting.{HasNesting}
 use Rattle.og_csubset.specs.Spelling.{CSpells, least}
 use Rattle.og_csubset.specs.Texts.{lines, in_brackets, statements_text, assigning, number_of, spaced_statement, Assigns, SpeltByNone, counting, counting_text, forms, forms_text}
-use Rattle.og_csubset.proofs.Lexing.{cut, keyword_of, word_token, number_token, sign_token, first_token, next_token}
-use Rattle.og_csubset.proofs.Reading.{bracket_end, path_at, operand_at, signed_at, product_rest, product_at, sum_rest, sum_at, number_at, test_at, each_at, constant_at, case_at, named_at, goto_at, if_at, switch_at, return_at, statement_at, type_at, member_end, member_at, struct_end, struct_at, global_at, head_at, event_at, function_at, program_at, read_tokens}
+use Rattle.og_csubset.specs.Lexing.{cut, keyword_of, word_token, number_token, sign_token, first_token, next_token}
+use Rattle.og_csubset.specs.Reading.{bracket_end, path_at, operand_at, signed_at, product_rest, product_at, sum_rest, sum_at, number_at, test_at, each_at, constant_at, case_at, named_at, goto_at, if_at, switch_at, return_at, statement_at, type_at, member_end, member_at, struct_end, struct_at, global_at, head_at, event_at, function_at, program_at, read_tokens}
 use Rattle.og_csubset.proofs.Text.{lex, behind, tokens_of, read_text, CSpells-read, spelt_by_none, nests_by}
 
 -- the reader with all that it computes by

@@ -7,9 +7,9 @@ use Rattle.og_csubset.specs.declared.CRel.TheVariants.{Eq}
 use Rattle.og_csubset.specs.Tokens.{Token, name, number, operator, relation, keyword, mark, typedef_, void_, if_, goto_, switch_, case_, default_, return_, int64_t, INT64_C, Mark, open_brace, close_brace, open_square, close_square, open_round, close_round, semicolon, colon, question, dot, equals}
 use Rattle.og_csubset.specs.Spelling.{literal, IsProgram}
 use Rattle.og_csubset.specs.Wrong.{BeginsProgram}
-use Rattle.og_csubset.proofs.Reading.{mark_number, keyword_number}
+use Rattle.og_csubset.specs.Reading.{mark_number, keyword_number}
 use Rattle.og_csubset.proofs.Seen.{nothing, Some-same, seen_cond}
-use Rattle.og_csubset.proofs.Recognizer.{Symbol, Symbols, a_keyword, a_mark, a_sign, a_name, a_number, this_number, a_size, a_relation, a_sum, more, an_operand, a_path, bracket_rest, a_constant, cases, named_rest, statements, member_rest, a_member, members, structs, globals, head_rest, declarations, functions, is_empty, next, step, step_on, and_goes_on, accepts, may_end, run, program_symbols}
+use Rattle.og_csubset.specs.Recognizer.{Symbol, Symbols, a_keyword, a_mark, a_sign, a_name, a_number, this_number, a_size, a_relation, a_sum, more, an_operand, a_path, bracket_rest, a_constant, cases, named_rest, statements, member_rest, a_member, members, structs, globals, head_rest, declarations, functions, is_empty, next, step, step_on, and_goes_on, accepts, may_end, run, program_symbols}
 use Rattle.og_csubset.proofs.Accepted.{program_accepted}
 use Rattle.og_csubset.proofs.Recognized.{program_in}
 

@@ -6,7 +6,7 @@ use Rattle.og_csubset.specs.Spelling.{CSpells}
 use Rattle.og_csubset.specs.Wrong.{GoesWrong}
 use Rattle.og_csubset.specs.Refusals.{GoesWrongAt}
 use Rattle.og_csubset.specs.Texts.{lines, statements_text}
-use Rattle.og_csubset.proofs.Lexing.{cut, keyword_of, word_token, number_token, sign_token, first_token, next_token}
+use Rattle.og_csubset.specs.Lexing.{cut, keyword_of, word_token, number_token, sign_token, first_token, next_token}
 use Rattle.og_csubset.proofs.Lexed.{begins-next}
 use Rattle.og_csubset.proofs.Text.{behind}
 use Rattle.og_csubset.proofs.Seen.{nothing, Some-same}

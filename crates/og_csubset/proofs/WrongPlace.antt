@@ -6,7 +6,8 @@ use Rattle.og_csubset.specs.declared.CProgram.{CProgram}
 use Rattle.og_csubset.specs.Tokens.{Token, is_space, Begins, Cuts, first_line}
 use Rattle.og_csubset.specs.Spelling.{IsProgram, CSpells}
 use Rattle.og_csubset.specs.Wrong.{BeginsProgram, BeginsWithNoSpace, GoesWrongBehind, GoesWrong, in_first_line, behind}
-use Rattle.og_csubset.proofs.Lexing.{cut, StopsAt, cut-append, same_first, nothing_first}
+use Rattle.og_csubset.specs.Lexing.{cut, StopsAt}
+use Rattle.og_csubset.proofs.Lexing.{cut-append, same_first, nothing_first}
 
 -- one more token at the end of those before
 pub regroup : (a : List Token) (x : Token) (b : List Token) → (a ++ x ∷ []) ++ b ≡ a ++ x ∷ b

@@ -20,3 +20,6 @@ pub mod Wrong
 pub mod Forms
 pub mod Refusals
 pub mod Paced
+pub mod Lexing
+pub mod Reading
+pub mod Recognizer

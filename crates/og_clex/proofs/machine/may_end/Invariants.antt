@@ -1,5 +1,5 @@
 use Rattle.std.proofs.Common.{◌≡◌}
-use Rattle.og_csubset.proofs.Recognizer.{may_end}
+use Rattle.og_csubset.specs.Recognizer.{may_end}
 use Rattle.og_clex.specs.Moves.{coming}
 use Rattle.og_clex.proofs.machine.may_end.Given as goal
 

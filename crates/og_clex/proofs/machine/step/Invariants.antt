@@ -1,5 +1,5 @@
 use Rattle.std.proofs.Common.{◌≡◌, length}
-use Rattle.og_csubset.proofs.Recognizer.{step}
+use Rattle.og_csubset.specs.Recognizer.{step}
 use Rattle.og_clex.specs.Views.{token_view}
 use Rattle.og_clex.specs.Moves.{coming}
 use Rattle.og_clex.proofs.machine.step.Given as goal

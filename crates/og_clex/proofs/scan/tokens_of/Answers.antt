@@ -1,7 +1,7 @@
 use Rattle.std.proofs.Common.{◌-◌, ◌<◌, ◌∷◌, ◌++◌, List, [], length, map, reverse, option_map, refl, sym, ap, ◌∙◌, subst, arith, rules, eqb-true}
 use Rattle.std.proofs.lemmas.List.{map-append}
 use Rattle.og_csubset.specs.Nesting.{outermost}
-use Rattle.og_csubset.proofs.Recognizer.{structs, globals, declarations}
+use Rattle.og_csubset.specs.Recognizer.{structs, globals, declarations}
 use Rattle.og_clex.specs.declared.nest.Level.{Level}
 use Rattle.og_clex.specs.Moves.{coming}
 use Rattle.og_clex.specs.Nests.{level_view}

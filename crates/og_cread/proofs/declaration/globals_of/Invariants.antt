@@ -1,5 +1,5 @@
 use Rattle.std.proofs.Common.{◌-◌}
-use Rattle.og_csubset.proofs.Reading.{each_at}
+use Rattle.og_csubset.specs.Reading.{each_at}
 use Rattle.og_cread.specs.Trees.{global_front}
 use Rattle.og_clex.specs.Views.{tokens_view}
 use Rattle.og_cread.proofs.Turns.{SoFar}

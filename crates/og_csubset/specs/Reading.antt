@@ -1,7 +1,7 @@
 -- Reading a program off its tokens, from left to right. Each reader gives the tree that the tokens begin with and the tokens
 -- behind it. `inner` reads a whole number one bracket further inside; a second number bounds how often a repetition goes
 -- round. Both are at most the number of the tokens in the end.
-use Rattle.std.proofs.Common.{ℕ, zero, suc, ◌-◌, ◌^◌, cond, ◌&&◌, List, [], ◌∷◌, length, ◌==◌, nat_lt, nat_le, ℤ, pos, negsuc, neg_ℤ, Option, Some, None}
+use Rattle.std.specs.Prelude.{ℕ, zero, suc, ◌-◌, ◌^◌, cond, ◌&&◌, List, [], ◌∷◌, length, ◌==◌, nat_lt, nat_le, ℤ, pos, negsuc, neg_ℤ, Option, Some, None}
 use Rattle.og_names.specs.declared.Word.{Word}
 use Rattle.og_csubset.specs.declared.CProgram.{CProgram}
 use Rattle.og_csubset.specs.declared.CStruct.{CStruct}

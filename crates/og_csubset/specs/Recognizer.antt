@@ -1,9 +1,9 @@
 -- A recognizer of programs, one token after the other: a stack of what is still to come. It needs no tree, and no levels of
 -- operators, since those change the tree alone. It tells the first token that no program goes on with.
-use Rattle.std.proofs.Common.{ℕ, ◌-◌, ◌^◌, Bool, true, false, cond, ◌&&◌, List, [], ◌∷◌, ◌++◌, ◌==◌, nat_lt, nat_le, Option, Some, None}
+use Rattle.std.specs.Prelude.{ℕ, ◌-◌, ◌^◌, Bool, true, false, cond, ◌&&◌, List, [], ◌∷◌, ◌++◌, ◌==◌, nat_lt, nat_le, Option, Some, None}
 use Rattle.og_csubset.specs.declared.COp.TheVariants.{Sub}
 use Rattle.og_csubset.specs.Tokens.{Token, name, number, operator, relation, keyword, mark, Keyword, typedef_, struct_, void_, if_, goto_, switch_, case_, default_, return_, int64_t, INT64_C, Mark, open_brace, close_brace, open_square, close_square, open_round, close_round, semicolon, colon, question, dot, equals}
-use Rattle.og_csubset.proofs.Reading.{mark_number, keyword_number}
+use Rattle.og_csubset.specs.Reading.{mark_number, keyword_number}
 
 -- what may be still to come: one token, or a part of the grammar; `more` are the operators and operands behind an operand
 pub data Symbol : Type 0 where
