@@ -1,0 +1,4 @@
+pub mod Computing
+pub mod Fronts
+pub mod Items
+pub mod Whole

@@ -1,0 +1,4 @@
+pub mod Form
+pub mod File
+pub mod Scans
+pub mod Examples
