@@ -2,3 +2,4 @@ pub mod Computing
 pub mod Fronts
 pub mod Items
 pub mod Whole
+pub mod Attaching

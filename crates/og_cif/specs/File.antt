@@ -23,13 +23,22 @@ StandInFile bytes (c ∷ cs) = StandsInFile bytes c × StandInFile bytes cs
 abbrev pub text_of : List ℕ → Comment → List ℕ
 text_of bytes c = slice_range bytes c.start c.end
 
--- the boxes are those of the comments
+-- the box that the comment is, with the place just behind the comment; or it is none
+abbrev pub IsBoxOf : List ℕ → Comment → Option BoxEnd → Type 0
+IsBoxOf bytes c None = (box : CifBox) → IsBox box (text_of bytes c) → ⊥
+IsBoxOf bytes c (Some one) = IsBox one.frame (text_of bytes c) × (one.end ≡ place_at c.place.file bytes c.end)
+
+-- the box, if there is one, as a list
+abbrev pub each_of : Option BoxEnd → List BoxEnd
+each_of None = []
+each_of (Some one) = one ∷ []
+
+-- the boxes are those of the comments, one for each comment that is one, in their order
 pub data AreBoxes (bytes : List ℕ) : List Comment → List BoxEnd → Type 0 where
   none : AreBoxes bytes [] []
-  a_box : {c : Comment} {cs : List Comment} {boxes : List BoxEnd} (box : CifBox) → IsBox box (text_of bytes c) → AreBoxes bytes cs boxes
-      → AreBoxes bytes (c ∷ cs) (record { end = place_at c.place.file bytes c.end; frame = box } ∷ boxes)
-  plain : {c : Comment} {cs : List Comment} {boxes : List BoxEnd} → ((box : CifBox) → IsBox box (text_of bytes c) → ⊥) → AreBoxes bytes cs boxes
-      → AreBoxes bytes (c ∷ cs) boxes
+  a_box : {c : Comment} {cs : List Comment} {boxes : List BoxEnd} (one : BoxEnd) → IsBoxOf bytes c (Some one) → AreBoxes bytes cs boxes
+      → AreBoxes bytes (c ∷ cs) (one ∷ boxes)
+  plain : {c : Comment} {cs : List Comment} {boxes : List BoxEnd} → IsBoxOf bytes c None → AreBoxes bytes cs boxes → AreBoxes bytes (c ∷ cs) boxes
 
 -- the second where the first is nothing
 abbrev pub or_else : Option CifBox → Option CifBox → Option CifBox

@@ -2,7 +2,7 @@
 ghost use Rattle.std.specs.Prelude.{◌≡◌, ◌+◌, ◌<◌, ◌≤◌, ◌^◌, ◌-◌, ◌++◌, List, [], ◌∷◌, length, IfOk, OnOk};
 ghost use Rattle.og_base.specs.Order.{is_before};
 ghost use Rattle.og_lexer.specs.Places.{place_after};
-ghost use Rattle.og_cif.specs.File.{StandInFile, AreBoxes, box_before};
+ghost use Rattle.og_cif.specs.File.{StandsInFile, StandInFile, IsBoxOf, AreBoxes, each_of, or_else, ended, box_before};
 
 use crate::{BoxEnd, Boxes, CifBox, read_cif};
 use og_base::Place;
@@ -12,6 +12,7 @@ use sqlite_items::Items;
 use std::alloc::Global;
 
 /// The boxes among the comments of a file, each with the place just behind its comment.
+#[tactic(auto, using(crate::proofs::Attaching::attaching))]
 pub fn attach(alloc: Global, comments: &[Comment], bytes: &[u8]) -> Result<Boxes, NoMemory>
     requires few { length bytes.now < 2 ^ 32 - 1 }
     // The comments are those of a text with these bytes.
@@ -21,14 +22,31 @@ pub fn attach(alloc: Global, comments: &[Comment], bytes: &[u8]) -> Result<Boxes
 {
     let mut list = Items::new(alloc);
     for comment in comments {
-        let (_, rest) = bytes.split_at(comment.start as usize);
-        let (text, _) = rest.split_at((comment.end - comment.start) as usize);
-        if let Some(frame) = read_cif(text) {
-            let end = place_after(comment.place, text);
-            list.push(BoxEnd { end, frame })?;
-        }
+        keep(&mut list, box_of(*comment, bytes))?;
     }
     Ok(Boxes { list })
+}
+
+/// Puts the box, where there is one, behind the others.
+fn keep(list: &mut Items<BoxEnd>, one: Option<BoxEnd>) -> Result<(), NoMemory>
+    ensures { OnOk result (list.new ≡ list.old ++ each_of one) }
+{
+    if let Some(one) = one {
+        list.push(one)?;
+    }
+    Ok(())
+}
+
+/// The box that the comment is, with the place just behind it.
+fn box_of(comment: Comment, bytes: &[u8]) -> Option<BoxEnd>
+    requires few { length bytes.now < 2 ^ 32 - 1 }
+    requires placed { StandsInFile bytes.now comment }
+    ensures { IsBoxOf bytes.now comment result }
+{
+    let text = &bytes[comment.start as usize..comment.end as usize];
+    let frame = read_cif(text)?;
+    let end = place_after(comment.place, text);
+    Some(BoxEnd { end, frame })
 }
 
 /// The place behind these bytes, from the place of their first byte on.
@@ -60,12 +78,17 @@ impl Boxes {
     {
         let mut last = None;
         for one in self.list.as_slice() {
-            if !is_before(place, one.end) {
-                last = Some(one.frame);
-            }
+            last = later(last, *one, place);
         }
         last
     }
+}
+
+/// The box, where it ends at or before the place, and else the last one so far.
+fn later(last: Option<CifBox>, one: BoxEnd, place: Place) -> Option<CifBox>
+    ensures { result ≡ or_else (ended one place) last }
+{
+    if is_before(place, one.end) { last } else { Some(one.frame) }
 }
 
 fn is_before(a: Place, b: Place) -> bool
