@@ -35,7 +35,7 @@ so_far_box bytes comments i boxes c d one lt is is_box so =
     record {
       left = both.1;
       joins = λ more are.
-        subst (λ (all : List BoxEnd). AreBoxes bytes comments all) (sym (append_assoc boxes (one ∷ []) more))
+          subst (λ (all : List BoxEnd). AreBoxes bytes comments all) (sym (append_assoc boxes (one ∷ []) more))
           (so.joins (one ∷ more) (subst (λ (cs : List Comment). AreBoxes bytes cs (one ∷ more)) (sym cut) (a_box one is_box are)));
     }
 
@@ -58,7 +58,7 @@ so_far_next bytes comments i boxes c d (Some one) lt is is_box so = so_far_box b
 pub so_far_all : (bytes : List ℕ) (comments : List Comment) (i : ℕ) (boxes : List BoxEnd) → length comments ≤ i → SoFar bytes comments i boxes → AreBoxes bytes comments boxes
 so_far_all bytes comments i boxes le so =
     subst (λ (all : List BoxEnd). AreBoxes bytes comments all) (append-nil boxes)
-      (so.joins [] (subst (λ (cs : List Comment). AreBoxes bytes cs []) (sym (at_drop_all (λ cs. cs) comments i le)) none))
+    (so.joins [] (subst (λ (cs : List Comment). AreBoxes bytes cs []) (sym (at_drop_all (λ cs. cs) comments i le)) none))
 
 pub ruleset attaching = (so_far_none, so_far_next, so_far_all, here)
 
@@ -99,10 +99,11 @@ pub none_of : (bytes text : List ℕ) (c : Comment) (found : Option CifBox) (res
     → ((box : CifBox) → IsBox box text ↔ (found ≡ Some box)) → found ≡ None → result ≡ None → IsBoxOf bytes c result
 none_of bytes text c found result is exact none_found no_result =
     subst (λ (r : Option BoxEnd). IsBoxOf bytes c r) (sym no_result)
-      (λ box is_box. let e = (exact box).0 (subst (λ (t : List ℕ). IsBox box t) (sym is) is_box) in absurd (let no : ⊥ = cc in no))
+    (λ box is_box. let e = (exact box).0 (subst (λ (t : List ℕ). IsBox box t) (sym is) is_box) in absurd (let no : ⊥ = cc in no))
 
 pub one_of : (bytes text : List ℕ) (c : Comment) (found : Option CifBox) (frame : CifBox) (end : Place) → text ≡ text_of bytes c → StandsInFile bytes c
     → ((box : CifBox) → IsBox box text ↔ (found ≡ Some box)) → found ≡ Some frame → end ≡ place_after c.place text → IsBoxOf bytes c (Some (record { end = end; frame = frame }))
-one_of bytes text c found frame end is stands exact is_found ends =
-    ( subst (λ (t : List ℕ). IsBox frame t) is ((exact frame).1 is_found)
-    , ends ∙ ap (place_after c.place) is ∙ text_end bytes c stands )
+one_of bytes text c found frame end is stands exact is_found ends = (
+  subst (λ (t : List ℕ). IsBox frame t) is ((exact frame).1 is_found),
+  ends ∙ ap (place_after c.place) is ∙ text_end bytes c stands,
+)

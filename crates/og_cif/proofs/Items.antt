@@ -40,7 +40,7 @@ pub sign_in : (s : ℕ) (items : List Item) (text : List ℕ) → is_white s ≡
 sign_in s items text black st =
     let l = st.1 in
     let past : past_white text ≡ s ∷ st.0 =
-        ap past_white (l.joined ∙ ap (λ w. l.space ++ (w ++ st.0)) l.is) ∙ white_past l.space (s ∷ st.0) l.is_space black in
+    ap past_white (l.joined ∙ ap (λ w. l.space ++ (w ++ st.0)) l.is) ∙ white_past l.space (s ∷ st.0) l.is_space black in
     record { rest = st.0; is = ap (sign_here s) past ∙ cond-true (s == s) (Some (tt, st.0)) None (eq-eqb s s refl); stand = st.2 }
 
 pub front_sign : (s : ℕ) (bytes rest : List ℕ) (u : Unit {0}) → sign_here s bytes ≡ Some (u, rest) → bytes ≡ s ∷ rest
@@ -92,9 +92,10 @@ word_in capitals text rest is stop l =
     let spelt_word : IsWord (map to_ascii_uppercase l.spelt) = subst (λ (w : List ℕ). IsWord w) (sym l.is) is in
     let all : list_all is_ascii_alphabetic l.spelt ≡ true = sym (letters_test l.spelt) ∙ spelt_word.all in
     let past : past_white text ≡ l.spelt ++ rest =
-        ap past_white l.joined ∙ white_past l.space (l.spelt ++ rest) l.is_space (black_first l.spelt rest spelt_word) in
-    ( ap (λ t. map to_ascii_uppercase (run is_ascii_alphabetic t)) past ∙ ap (map to_ascii_uppercase) (run_is is_ascii_alphabetic l.spelt rest all stop) ∙ l.is
-    , ap (behind is_ascii_alphabetic) past ∙ behind_is is_ascii_alphabetic l.spelt rest all stop )
+    ap past_white l.joined ∙ white_past l.space (l.spelt ++ rest) l.is_space (black_first l.spelt rest spelt_word) in (
+      ap (λ t. map to_ascii_uppercase (run is_ascii_alphabetic t)) past ∙ ap (map to_ascii_uppercase) (run_is is_ascii_alphabetic l.spelt rest all stop) ∙ l.is,
+      ap (behind is_ascii_alphabetic) past ∙ behind_is is_ascii_alphabetic l.spelt rest all stop,
+    )
 
 pub word_out : (capitals : List ℕ) (text : List ℕ) → capitals_at text ≡ capitals → Leads (word capitals) text (behind_letters text)
 word_out capitals text is =
@@ -277,8 +278,8 @@ number_in z items text stops st =
     let n = l.is in
     let fits : in_32_bits (integer n.negative n.digits) ≡ true = subst (λ v. in_32_bits v ≡ true) n.is n.fits in
     let past : past_white text ≡ signed n.negative n.digits ++ st.0 =
-        ap past_white (l.joined ∙ ap (λ w. l.space ++ (w ++ st.0)) n.spelt)
-        ∙ white_past l.space (signed n.negative n.digits ++ st.0) l.is_space (number_black n.negative n.digits st.0 n.are_digits) in
+    ap past_white (l.joined ∙ ap (λ w. l.space ++ (w ++ st.0)) n.spelt)
+    ∙ white_past l.space (signed n.negative n.digits ++ st.0) l.is_space (number_black n.negative n.digits st.0 n.are_digits) in
     record {
       rest = st.0;
       is = ap number_here past ∙ number_here_in n.negative n.digits st.0 n.are_digits (stops st.0 st.2) fits ∙ ap (λ v. Some (v, st.0)) (sym n.is);
@@ -300,7 +301,7 @@ first_of_run : (bytes : List ℕ) → begins is_ascii_digit bytes ≡ true → b
 first_of_run [] is = absurd (let no : ⊥ = cc in no)
 first_of_run (b ∷ bs) is =
     ap (λ n. begins is_ascii_digit (take n (b ∷ bs)))
-      (cond-true (is_ascii_digit b) (1 + prefix_len is_ascii_digit bs) 0 is ∙ (let e : 1 + prefix_len is_ascii_digit bs ≡ suc (prefix_len is_ascii_digit bs) = omega arith in e))
+    (cond-true (is_ascii_digit b) (1 + prefix_len is_ascii_digit bs) 0 is ∙ (let e : 1 + prefix_len is_ascii_digit bs ≡ suc (prefix_len is_ascii_digit bs) = omega arith in e))
     ∙ is
 
 digits_out : (negative : Bool) (bytes rest : List ℕ) (z : ℤ) → digits_here negative bytes ≡ Some (z, rest) → Begins z (signed negative bytes) rest
@@ -309,6 +310,7 @@ digits_out negative bytes rest z e = by_test (begins is_ascii_digit bytes) refl 
     shifted : (negative : Bool) (xs ys : List ℕ) → bytes ≡ xs ++ ys → signed negative bytes ≡ signed negative xs ++ ys
     shifted true xs ys is = ap (λ t. 45 ∷ t) is
     shifted false xs ys is = is
+
     by_test : (t : Bool) → begins is_ascii_digit bytes ≡ t
         → cond t (kept (number_of_sign negative (run is_ascii_digit bytes)) (behind is_ascii_digit bytes)) None ≡ Some (z, rest) → Begins z (signed negative bytes) rest
     by_test true is e =
@@ -402,7 +404,7 @@ pair_out p items text rest e st =
     let both : (x.0, y.0) ≡ p = value_same (x.0, y.0) p z.1 rest z.3 in
     let ends : z.1 ≡ rest = rest_same (x.0, y.0) p z.1 rest z.3 in
     let all : Stand (pair_items x.0 y.0 items) text =
-        sign_out 40 (number x.0 ∷ sign 44 ∷ number y.0 ∷ sign 41 ∷ items) text o.1 o.0 o.2 (number_out x.0 (sign 44 ∷ number y.0 ∷ sign 41 ∷ items) o.1 x.1 x.2
-        (sign_out 44 (number y.0 ∷ sign 41 ∷ items) x.1 c.1 c.0 c.2 (number_out y.0 (sign 41 ∷ items) c.1 y.1 y.2
-        (sign_out 41 items y.1 z.1 z.0 z.2 (subst (λ (t : List ℕ). Stand items t) (sym ends) st))))) in
+    sign_out 40 (number x.0 ∷ sign 44 ∷ number y.0 ∷ sign 41 ∷ items) text o.1 o.0 o.2 (number_out x.0 (sign 44 ∷ number y.0 ∷ sign 41 ∷ items) o.1 x.1 x.2
+    (sign_out 44 (number y.0 ∷ sign 41 ∷ items) x.1 c.1 c.0 c.2 (number_out y.0 (sign 41 ∷ items) c.1 y.1 y.2
+    (sign_out 41 items y.1 z.1 z.0 z.2 (subst (λ (t : List ℕ). Stand items t) (sym ends) st))))) in
     subst (λ (q : ℤ × ℤ). Stand (pair_items q.0 q.1 items) text) both all

@@ -3,3 +3,4 @@ pub mod Fronts
 pub mod Items
 pub mod Whole
 pub mod Attaching
+pub mod OneList

@@ -88,7 +88,11 @@ impl Boxes {
 fn later(last: Option<CifBox>, one: BoxEnd, place: Place) -> Option<CifBox>
     ensures { result ≡ or_else (ended one place) last }
 {
-    if is_before(place, one.end) { last } else { Some(one.frame) }
+    if is_before(place, one.end) {
+        last
+    } else {
+        Some(one.frame)
+    }
 }
 
 fn is_before(a: Place, b: Place) -> bool

@@ -3,13 +3,15 @@
 
 mod comments;
 mod examples;
+mod laws;
 mod read;
 mod symbols;
 
 pub use comments::attach;
 pub use examples::{boxes_are_read, others_are_plain};
-pub use read::read_cif;
+pub use laws::{lexed_comments_stand, one_list_of_boxes};
 use og_base::Place;
+pub use read::read_cif;
 use sqlite_items::Items;
 
 /// What is drawn at a box, by the word that stands in its comment.

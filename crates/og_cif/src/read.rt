@@ -38,7 +38,11 @@ fn box_at(inside: &[u8]) -> Option<CifBox>
     let rest = sign_at(b',', rest)?;
     let (w, h, rest) = pair_at(rest)?;
     let frame = CifBox { symbol, x, y, w, h };
-    if past_white(rest) == b"*/".as_slice() { Some(frame) } else { None }
+    if past_white(rest) == b"*/".as_slice() {
+        Some(frame)
+    } else {
+        None
+    }
 }
 
 /// What a byte of a box may be.
@@ -167,7 +171,9 @@ fn magnitude(digits: &[u8]) -> u64
 {
     let mut value: u64 = 0;
     for digit in digits {
-        value = value.saturating_mul(10).saturating_add(u64::from(digit.saturating_sub(b'0')));
+        value = value
+            .saturating_mul(10)
+            .saturating_add(u64::from(digit.saturating_sub(b'0')));
     }
     value
 }

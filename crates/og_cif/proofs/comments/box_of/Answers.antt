@@ -22,4 +22,4 @@ place_after-end-requires-clause-columns c =
 pub returns : goal.returns
 returns c =
     one_of c.args.bytes.now (text_of c.args.bytes.now c.args.comment) c.args.comment c.read_cif.result c.in_ok-frame.frame c.place_after-end.result refl c.requires.placed c.read_cif.ensures
-      c.in_ok-frame.was c.place_after-end.ensures
+    c.in_ok-frame.was c.place_after-end.ensures
