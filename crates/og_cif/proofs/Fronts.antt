@@ -1,12 +1,11 @@
 -- White space, and what stands first behind it.
-use Rattle.std.proofs.Common.{◌≡◌, ℕ, Bool, true, false, cond, ◌&&◌, List, [], ◌∷◌, ◌++◌, length, take, drop, refl, sym, ap, ◌∙◌, subst, append_assoc, IsTrue}
-use Rattle.std.specs.Prelude.{◌==◌, Option, Some, None}
-use Rattle.std.specs.List.{list_all, prefix_len}
-use Rattle.std.proofs.lemmas.Bool.{and_parts, and_from, cond-true, cond-false}
+use Rattle.std.proofs.Common.{◌≡◌, ℕ, Bool, true, List, [], ◌∷◌, ◌++◌, take, drop, sym, ap, ◌∙◌, subst}
+use Rattle.std.specs.List.{list_all}
+use Rattle.std.proofs.lemmas.Bool.{and_parts, and_from}
 use Rattle.std.proofs.Math.Seq.{take-append_seam, drop-append_seam}
 use Rattle.og_lexer.specs.Pieces.{NotFirst}
-use Rattle.og_lexer.proofs.Ends.{prefix_len-at, IsRun, run_of}
-use Rattle.og_cif.specs.Form.{is_white, AreWhite, begins}
+use Rattle.og_lexer.proofs.Ends.{prefix_len-at, run_of}
+use Rattle.og_cif.specs.Form.{is_white, AreWhite}
 use Rattle.og_cif.specs.Scans.{run, behind, past_white}
 
 -- the first byte, if there is one, does not pass

@@ -1,5 +1,5 @@
 -- Each reader finds the item that stands in front, and what it finds stands there.
-use Rattle.std.proofs.Common.{◌≡◌, ℕ, Bool, true, false, cond, ◌&&◌, ◌||◌, List, [], ◌∷◌, ◌++◌, ◌+◌, suc, take, drop, map, codes, arith, refl, sym, ap, ◌∙◌, subst, append_assoc, ℤ, IsTrue}
+use Rattle.std.proofs.Common.{◌≡◌, ℕ, Bool, true, false, cond, ◌&&◌, List, [], ◌∷◌, ◌++◌, ◌+◌, suc, take, drop, map, codes, arith, refl, sym, ap, ◌∙◌, subst, append_assoc, ℤ}
 use Rattle.std.specs.Prelude.{◌==◌, Option, Some, None}
 use Rattle.std.specs.List.{list_all, prefix_len}
 use Rattle.std.specs.Char.{to_ascii_uppercase, is_ascii_alphabetic, is_ascii_digit}
@@ -7,13 +7,12 @@ use Rattle.std.specs.Str.{bytes_eq}
 use Rattle.std.proofs.lemmas.Bool.{and_parts, and_from, cond-true, cond-false, eq-eqb, eqb-true}
 use Rattle.std.proofs.lemmas.Slice.Eq.{bytes_eq-Decides}
 use Rattle.std.proofs.lemmas.Bool.Decides.{nat_tests}
-use Rattle.og_lexer.specs.Pieces.{NotFirst}
 use Rattle.og_cif.specs.declared.Symbol.{Symbol}
 use Rattle.og_cif.specs.declared.Symbol.TheVariants.{Start}
 use Rattle.og_cif.specs.declared.symbols.TheConstants.{SYMBOLS}
-use Rattle.og_cif.specs.Form.{is_white, AreWhite, symbol_text, Item, word, white, sign, number, begins, IsDigits, signed, integer, in_32_bits, IsNumber, IsWhite, IsSpelt, Leads, Closes, Stand, pair_items}
+use Rattle.og_cif.specs.Form.{is_white, AreWhite, symbol_text, Item, word, white, sign, number, begins, IsDigits, signed, integer, in_32_bits, IsNumber, Leads, Stand, pair_items}
 use Rattle.og_cif.specs.Scans.{Found, and_then, kept, run, behind, past_white, capitals_at, behind_letters, sign_here, sign_at, cif_at, symbol_in, symbol_at, number_of_sign, digits_here, number_here, number_at, pair_at}
-use Rattle.og_cif.proofs.Fronts.{StopsAt, run_is, behind_is, IsCut, cut_of, all_joined, white_past}
+use Rattle.og_cif.proofs.Fronts.{StopsAt, run_is, behind_is, cut_of, all_joined, white_past}
 
 -- something was found, and behind it the items stand
 pub record Passes {A : Type 0} (found : Found A) (x : A) (items : List Item) : Type 0 where

@@ -1,6 +1,6 @@
 -- Comments of a file stand in it, and have one list of boxes.
-use Rattle.std.proofs.Common.{◌≡◌, ℕ, ◌+◌, ◌≤◌, Bool, true, false, List, [], ◌∷◌, take, refl, sym, ap, ◌∙◌}
-use Rattle.std.specs.Prelude.{Option, Some, None, if◌then◌else◌, ◌==◌, cond}
+use Rattle.std.proofs.Common.{◌≡◌, ℕ, ◌+◌, Bool, true, false, List, [], ◌∷◌, take, refl, sym, ap, ◌∙◌}
+use Rattle.std.specs.Prelude.{Some, ◌==◌, cond}
 use Rattle.og_base.specs.declared.Place.{Place}
 use Rattle.og_lexer.specs.declared.Language.{Language}
 use Rattle.og_lexer.specs.declared.Comment.{Comment}
@@ -9,7 +9,6 @@ use Rattle.og_lexer.specs.Texts.{IsCommentInPlaceIn, AreCommentsInPlaceIn}
 use Rattle.og_cif.specs.declared.CifBox.{CifBox}
 use Rattle.og_cif.specs.declared.BoxEnd.{BoxEnd}
 use Rattle.og_cif.specs.Form.{IsBox}
-use Rattle.og_cif.specs.Scans.{box_of}
 use Rattle.og_cif.specs.File.{StandsInFile, StandInFile, IsBoxOf, text_of, AreBoxes, none, a_box, plain}
 use Rattle.og_cif.proofs.Whole.{box_in}
 

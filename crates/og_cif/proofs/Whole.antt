@@ -1,15 +1,14 @@
 -- A comment is a box exactly where the readers find one.
-use Rattle.std.proofs.Common.{◌≡◌, ℕ, Bool, true, false, cond, ◌&&◌, List, [], ◌∷◌, ◌++◌, map, codes, refl, sym, ap, ◌∙◌, subst, append_assoc, ℤ, IsTrue}
-use Rattle.std.specs.Prelude.{◌==◌, Option, Some, None}
+use Rattle.std.proofs.Common.{◌≡◌, ℕ, Bool, true, false, cond, List, [], ◌∷◌, ◌++◌, codes, refl, ap, ◌∙◌, subst}
+use Rattle.std.specs.Prelude.{Option, Some, None}
 use Rattle.std.specs.Str.{bytes_eq}
 use Rattle.std.proofs.lemmas.Bool.{cond-true}
 use Rattle.std.proofs.lemmas.Slice.Eq.{bytes_eq-Decides}
-use Rattle.og_cif.specs.declared.Symbol.{Symbol}
 use Rattle.og_cif.specs.declared.CifBox.{CifBox}
-use Rattle.og_cif.specs.Form.{is_white, AreWhite, symbol_text, Item, word, white, sign, number, Leads, Closes, Stand, pair_items, items_of, IsBox}
-use Rattle.og_cif.specs.Scans.{Found, and_then, kept, run, past_white, sign_here, sign_at, cif_at, symbol_at, number_at, pair_at, closed, box_at, box_of}
-use Rattle.og_cif.proofs.Fronts.{StopsAt, IsCut, cut_of, white_past}
-use Rattle.og_cif.proofs.Items.{Passes, sign_in, front_sign, sign_out, cif_in, cif_out, symbol_at_in, sign_ends_word, pair_in, pair_out, seen_then}
+use Rattle.og_cif.specs.Form.{is_white, symbol_text, Item, word, sign, number, Closes, Stand, pair_items, items_of, IsBox}
+use Rattle.og_cif.specs.Scans.{run, past_white, sign_here, sign_at, cif_at, symbol_at, pair_at, closed, box_at, box_of}
+use Rattle.og_cif.proofs.Fronts.{cut_of, white_past}
+use Rattle.og_cif.proofs.Items.{sign_in, front_sign, sign_out, cif_in, cif_out, symbol_at_in, sign_ends_word, pair_in, pair_out, seen_then}
 
 -- what stands behind the first pair
 abbrev tail_of : CifBox → List Item

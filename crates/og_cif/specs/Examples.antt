@@ -1,8 +1,6 @@
 -- Boxes and other comments (Z.106), computed.
-use Rattle.std.specs.Prelude.{◌≡◌, ℕ, List, codes, pos, negsuc, Some, None}
-use Rattle.og_cif.specs.declared.Symbol.{Symbol}
+use Rattle.std.specs.Prelude.{◌≡◌, codes, pos, negsuc, Some, None}
 use Rattle.og_cif.specs.declared.Symbol.TheVariants as symbol
-use Rattle.og_cif.specs.declared.CifBox.{CifBox}
 use Rattle.og_cif.specs.Scans.{box_of}
 
 pub record BoxesAreRead : Type 0 where

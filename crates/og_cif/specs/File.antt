@@ -1,6 +1,6 @@
 -- The boxes of a file (Z.106). A comment that is a box gives one, with the place just behind the comment; what is reported
 -- for a place names the last box that ends there or before it.
-use Rattle.std.specs.Prelude.{◌≡◌, ◌≤◌, ℕ, Bool, not, List, [], ◌∷◌, ◌++◌, length, slice_range, Option, Some, None, if◌then◌else◌}
+use Rattle.std.specs.Prelude.{◌≡◌, ◌≤◌, ℕ, List, [], ◌∷◌, length, slice_range, Option, Some, None, if◌then◌else◌}
 use Rattle.og_base.specs.declared.Place.{Place}
 use Rattle.og_base.specs.Order.{is_before}
 use Rattle.og_lexer.specs.declared.Comment.{Comment}

@@ -1,7 +1,7 @@
 -- Boxes of CIF (Z.106): `/* CIF SYMBOL (x, y), (w, h) */`. CIF and the symbol are in any case; white space is free before
 -- each part and before the comment ends, and stands between CIF and the symbol. Numbers are decimal, with any zeros in
 -- front and a minus sign or none, and have 32 bits. Which symbols there are is this project's own choice.
-use Rattle.std.specs.Prelude.{◌≡◌, ℕ, ◌+◌, ◌*◌, ◌-◌, Bool, true, false, ◌&&◌, ◌||◌, IsTrue, List, [], ◌∷◌, ◌++◌, ◌==◌, map, codes, ℤ, pos, negsuc, neg_ℤ, int_le, if◌then◌else◌}
+use Rattle.std.specs.Prelude.{◌≡◌, ℕ, Bool, false, ◌&&◌, ◌||◌, IsTrue, List, [], ◌∷◌, ◌++◌, ◌==◌, map, codes, ℤ, pos, negsuc, neg_ℤ, int_le, if◌then◌else◌}
 use Rattle.std.specs.List.{list_all}
 use Rattle.std.specs.Char.{to_ascii_uppercase, is_ascii_digit}
 use Rattle.og_lexer.specs.Bytes.{number_of}

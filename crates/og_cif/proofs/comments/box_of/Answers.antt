@@ -1,6 +1,6 @@
-use Rattle.std.proofs.Common.{◌≡◌, ◌+◌, ◌<◌, ◌≤◌, ◌^◌, ◌-◌, length, refl, arith}
+use Rattle.std.proofs.Common.{refl, arith}
 use Rattle.og_cif.specs.File.{text_of}
-use Rattle.og_cif.proofs.Attaching.{HasRoom, room, text_len, none_of, one_of}
+use Rattle.og_cif.proofs.Attaching.{room, text_len, none_of, one_of}
 use Rattle.og_cif.proofs.comments.box_of.Goals as goal
 
 pub returns-in_err-frame : goal.returns-in_err-frame

@@ -1,6 +1,4 @@
-use Rattle.std.proofs.Common.{◌≡◌, Some, ap, ◌∙◌, sym, subst}
-use Rattle.og_cif.specs.declared.CifBox.{CifBox}
-use Rattle.og_cif.specs.Form.{IsBox}
+use Rattle.std.proofs.Common.{◌∙◌, sym}
 use Rattle.og_cif.proofs.Whole.{box_in, box_out}
 use Rattle.og_cif.proofs.read.read_cif.Goals as goal
 
