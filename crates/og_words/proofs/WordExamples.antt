@@ -1,6 +1,5 @@
 -- Words that were worked out by hand.
 use Rattle.std.proofs.Common.{◌≡◌, ◌≢◌, ℕ, List, [], ◌∷◌, refl, inl, inr, ap, arith, codes}
-use Rattle.std.specs.List.{AllByRecursion}
 use Rattle.std.specs.Fmt.{digits}
 use Rattle.og_words.specs.Words.{Check, Compile, Run, Simulate, IsSdlFile, IsAsnFile, IsModelFile, IsProgramFile, IsStimuliFile, AreDifferent, HasOneSdlFile, AreModelFiles, AsksFor, IsNoCommand}
 use Rattle.og_words.proofs.CommandForms.{short_is_none}
