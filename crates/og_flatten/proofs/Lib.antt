@@ -10,6 +10,7 @@ pub mod Named
 pub mod Apart
 pub mod SingleSteps
 pub mod Places
+pub mod Serving
 pub mod Basic
 pub mod Meaning
 pub mod Transitions

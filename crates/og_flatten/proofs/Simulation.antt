@@ -1,5 +1,6 @@
 -- The code of a model of basic states answers the start and each stimulus as the meaning of the model does.
 use Rattle.std.proofs.Common.{◌≡◌, ℕ, suc, ◌+◌, ◌*◌, ◌≤◌, ◌<◌, ℤ, pos, negsuc, Bool, true, false, nat_lt, cond, List, [], ◌∷◌, ◌++◌, map, length, slice_get, Option, Some, None, inl, inr, unwrap_or, refl, sym, ap, subst, ◌∙◌, arith, IsTrue}
+use Rattle.std.specs.Option.{is_some}
 use Rattle.std.specs.List.{list_all}
 use Rattle.std.proofs.lemmas.Bool.{false≢true, ltb-true}
 use Rattle.std.proofs.lemmas.Option.{none-some}
@@ -45,6 +46,7 @@ use Rattle.og_follow.proofs.Carrying.{passes_on, passes_then, then_passes, only_
 use Rattle.og_follow.proofs.Answering.{carried_is_answered}
 use Rattle.og_flatten.proofs.SingleSteps.{slots_at, sets_region, sets_chosen, table_of_chosen, table_of_region, not_stopped}
 use Rattle.og_flatten.proofs.Places.{HasAt, BodyAt, bodies_placed, entering_placed, length_of_all, ChoiceAt, handled_placed, not_handled, has_at}
+use Rattle.og_flatten.proofs.Serving.{serves, serves_nothing, body_serves, state_serves, served}
 use Rattle.og_flatten.proofs.Basic.{body_is, StateIs, state_is, start_is}
 use Rattle.og_flatten.proofs.Meaning.{whole, start_is_whole, step_takes, step_discards, paths_are}
 use Rattle.og_flatten.proofs.Transitions.{frame, machine_of, HasNoData, Here, Left, from_to, whole_places, whole_ways, done≢out, coded, goes, returns, carries_whole}
@@ -201,10 +203,10 @@ choice_passes M pace is_pace r x f p g body b placed at code other =
     let back = frame f (p + 1 + 1) ∷ [] in
     passes_on (coded M pace is_pace) (Here r x f p []) [] (Here r y 0 0 back) [] (Here r y 0 placed.place back) (either (place f p) (place f (p + 1))) (place 0 0)
     (passes_on (coded M pace is_pace) (Here r x f p []) [] (Here r y f (p + 1) []) [] (Here r y 0 0 back) (place f p) (place f (p + 1))
-    (goes M pace is_pace r x f p [] r y f (p + 1) [] g (sets chosen y) at code.0 (sets_chosen M r x y (frame f p) []))
-    (goes M pace is_pace r y f (p + 1) [] r y 0 0 back g (instr.Call 0) at code.1.0 refl)
+    (goes M pace is_pace r x f p [] r y f (p + 1) [] g (sets chosen y) (serves_nothing M f p other) at code.0 (sets_chosen M r x y (frame f p) []))
+    (goes M pace is_pace r y f (p + 1) [] r y 0 0 back g (instr.Call 0) (serves_nothing M f (p + 1) other) at code.1.0 refl)
     second_apart)
-    (goes M pace is_pace r y 0 0 back r y 0 placed.place back (transition_function M) (instr.Table (read chosen) (body_cases 0 1 (bodies_of M)) (end_place M)) refl refl
+    (goes M pace is_pace r y 0 0 back r y 0 placed.place back (transition_function M) (instr.Table (read chosen) (body_cases 0 1 (bodies_of M)) (end_place M)) refl refl refl
     (table_of_chosen M r y (frame 0 0) back (body_cases 0 1 (bodies_of M)) (end_place M)
     ∙ ap (λ q. quiet (Running (slots_at r y) (frame 0 q) back)) (placed.leads (end_place M))))
     third_apart
@@ -264,11 +266,11 @@ chooses M is pace is_pace r x f p g body origin lt at code other before passes =
           (passes_on code_of_it before [] (Here r x f p []) [] (Here r y 0 a back) (before_choice f p) (at_choice f p) passes
           (choice_passes M pace is_pace r x f p g body b placed at code other) (choice_apart f p other))
           (then_passes code_of_it fuel whole_one (Here r y 0 a back) (only (Done (At k Basic)) (Here (pos k) y 0 (e + 1) back)) (only (Done (At k Basic)) (Left (pos k) y)) Z (whole_ways a end e)
-          (carries_whole M pace is_pace (emits M is.basic is.fair) r y back a body b origin found.1 b_is entered.0 entered.1 (state_is M is.formed is.basic k entered.0 entered.1) placed.code_there entering fuel)
+          (carries_whole M pace is_pace (emits M is.basic is.fair) r y back a body b origin found.1 b_is entered.0 entered.1 (state_is M is.formed is.basic k entered.0 entered.1) placed.code_there (body_serves M body b a found.1 (placed.leads 0)) entering fuel)
           (only_passes code_of_it (Done (At k Basic)) (Here (pos k) y 0 (e + 1) back) (Left (pos k) y) Z
           (passes_on code_of_it (Here (pos k) y 0 (e + 1) back) [] (Here (pos k) y f (p + 1 + 1) []) [] (Left (pos k) y) (place 0 (e + 1)) (place f (p + 1 + 1))
-          (goes M pace is_pace (pos k) y 0 (e + 1) back (pos k) y f (p + 1 + 1) [] (transition_function M) instr.Back refl entering.1.0 refl)
-          (returns M pace is_pace (pos k) y f (p + 1 + 1) g at code.1.1.0)
+          (goes M pace is_pace (pos k) y 0 (e + 1) back (pos k) y f (p + 1 + 1) [] (transition_function M) instr.Back (served M (e + 1) None (state_serves M k entered.0 entered.1).1.0) refl entering.1.0 refl)
+          (returns M pace is_pace (pos k) y f (p + 1 + 1) g (serves_nothing M f (p + 1 + 1) other) at code.1.1.0)
           (returns_apart e f (p + 1 + 1) other)))
           (λ h q u v. v) (behind_whole e f (p + 1 + 1) a end other (omega (arith, to))) (behind_whole e f (p + 1 + 1) a end other (omega (arith, to))))
           (returns_new e f p other) (whole_new e f p a end other from (omega (arith))));
@@ -279,7 +281,7 @@ chooses M is pace is_pace r x f p g body origin lt at code other before passes =
 -- what is carried out from here is answered
 answers : (M : Model) (pace : Pace) (is_pace : IsPace pace) (config : Config) (d : Doing Active) (n : ℕ) (s : State) (before : Standing) → before s config → Answered M pace is_pace before d → Answers (Rests M) Halts (machine_of M) pace (paced_size pace (code_of M)) config n (d n s)
 answers M pace is_pace config d n s before at answered =
-    carried_is_answered (Rests M) Halts (machine_of M) pace is_pace (code_of M) config d n s before answered.ways at (answered.carries n)
+    carried_is_answered (Rests M) Halts (machine_of M) (λ at. is_some (serves M at)) pace is_pace (code_of M) config d n s before answered.ways at (answered.carries n)
 
 -- ---- the start
 
@@ -302,7 +304,7 @@ starts M is pace is_pace n =
     })
     (chooses M is pace is_pace (negsuc 0) (pos 0) 1 1 (start_function M) st.start.body None st.there refl (ap (λ starts. Some (sets chosen (pos (start_body starts)))) st.is, (refl, (refl, tt))) (λ e. omega (arith, e)) before
     (passes_wider (coded M pace is_pace) before before [] (Here (negsuc 0) (pos 0) 1 1 []) (Here (negsuc 0) (pos 0) 1 1 []) (place 1 0) (before_choice 1 1) (λ s now h. h) (λ s now h. h) among
-    (goes M pace is_pace (pos 0) (pos 0) 1 0 [] (negsuc 0) (pos 0) 1 1 [] (start_function M) (sets region (negsuc 0)) refl refl (sets_region M (pos 0) (pos 0) (negsuc 0) (frame 1 0) []))))))
+    (goes M pace is_pace (pos 0) (pos 0) 1 0 [] (negsuc 0) (pos 0) 1 1 [] (start_function M) (sets region (negsuc 0)) refl refl refl (sets_region M (pos 0) (pos 0) (negsuc 0) (frame 1 0) []))))))
   where
     among : Among (place 1 0) (before_choice 1 1)
     among f q x = let e = x.1 in (x.0, omega (arith, e), omega (arith, e))
@@ -358,8 +360,8 @@ signal_passes M is pace is_pace k signal placed r x to leads le =
     let slots = slots_at r x in
     passes_wider (coded M pace is_pace) (Here r x f 0 []) (Here r x f 0 []) [] (Here r x f to []) (Here r x f to []) (either (place f 0) (place f 1)) (before_choice f to) (λ s now h. h) (λ s now h. h) among
     (passes_on (coded M pace is_pace) (Here r x f 0 []) [] (Here r x f 1 []) [] (Here r x f to []) (place f 0) (place f 1)
-    (goes M pace is_pace r x f 0 [] r x f 1 [] g (instr.Branch is_stopped (signal_end M k)) placed.at refl (not_stopped M r x (frame f 0) [] (signal_end M k)))
-    (goes M pace is_pace r x f 1 [] r x f to [] g (instr.Table (read region) (choice_cases k 0 2 (states_of M)) (signal_end M k)) placed.at refl
+    (goes M pace is_pace r x f 0 [] r x f 1 [] g (instr.Branch is_stopped (signal_end M k)) (serves_nothing M f 0 placed.other) placed.at refl (not_stopped M r x (frame f 0) [] (signal_end M k)))
+    (goes M pace is_pace r x f 1 [] r x f to [] g (instr.Table (read region) (choice_cases k 0 2 (states_of M)) (signal_end M k)) (serves_nothing M f 1 placed.other) placed.at refl
     (table_of_region M r x (frame f 1) [] (choice_cases k 0 2 (states_of M)) (signal_end M k) ∙ ap (λ q. quiet (Running slots (frame f q) [])) leads))
     apart)
   where
@@ -402,7 +404,7 @@ takes_by M is pace is_pace k vs sent placed st d x at st_is None none =
           (passes_then (coded M pace is_pace) fuel (gives (At st Basic)) before [] (Left (pos st) x) (Returned (Rests M) Halts (machine_of M)) X no_places
           (passes_on (coded M pace is_pace) before [] (Here (pos st) x f last []) [] (Left (pos st) x) (before_choice f last) (place f last)
           (signal_passes M is pace is_pace k sent.signal placed (pos st) x last to (omega (arith)))
-          (returns M pace is_pace (pos st) x f last (signal_function M k sent.signal) placed.at (end_placed M k))
+          (returns M pace is_pace (pos st) x f last (signal_function M k sent.signal) (serves_nothing M f last placed.other) placed.at (end_placed M k))
           (last_apart f last))
           (ends_at_once (coded M pace is_pace) fuel (Done (At st Basic)) (Left (pos st) x) (Returned (Rests M) Halts (machine_of M)) no_places (done≢out (At st Basic)) (omega (arith)) rest)
           (λ g q u v. u) (λ g q u v. u));
