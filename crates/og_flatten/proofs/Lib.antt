@@ -16,6 +16,8 @@ pub mod Meaning
 pub mod Transitions
 pub mod Interfaces
 pub mod Simulation
+pub mod Paths
+pub mod OwnUnits
 pub mod Behaviour
 pub mod FairCode
 pub mod Composed

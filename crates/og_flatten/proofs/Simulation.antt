@@ -59,17 +59,17 @@ pub record IsBasic (M : Model) : Type 0 where
   pub basic : UsesBasicStatesOnly M
   pub fair : Fair (code_of M) M
 
-none_more : (k : ℕ) → 0 + k ≡ k
+pub none_more : (k : ℕ) → 0 + k ≡ k
 none_more k = omega (arith)
 
 -- ---- where bodies and entering code stand
 
-body_placed : (M : Model) (k : ℕ) (b : Body) → slice_get (bodies_of M) k ≡ Some b → BodyAt (first_entering M) (end_place M) (transition_code M) (body_cases 0 1 (bodies_of M)) 1 (first_entering M) k b
+pub body_placed : (M : Model) (k : ℕ) (b : Body) → slice_get (bodies_of M) k ≡ Some b → BodyAt (first_entering M) (end_place M) (transition_code M) (body_cases 0 1 (bodies_of M)) 1 (first_entering M) k b
 body_placed M k b at =
     subst (λ n. BodyAt (first_entering M) (end_place M) (transition_code M) (body_cases 0 1 (bodies_of M)) 1 (first_entering M) n b) (none_more k)
     (bodies_placed (first_entering M) (end_place M) 0 k (instr.Table (read chosen) (body_cases 0 1 (bodies_of M)) (end_place M) ∷ []) (entering_code 0 (states_of M) ++ instr.Back ∷ []) (bodies_of M) b at)
 
-state_placed : (M : Model) (k : ℕ) (d : StateDef) → slice_get (states_of M) k ≡ Some d → HasAt (transition_code M) (entering_place M k) (sets region (pos k) ∷ instr.Back ∷ [])
+pub state_placed : (M : Model) (k : ℕ) (d : StateDef) → slice_get (states_of M) k ≡ Some d → HasAt (transition_code M) (entering_place M k) (sets region (pos k) ∷ instr.Back ∷ [])
 state_placed M k d at =
     let before = instr.Table (read chosen) (body_cases 0 1 (bodies_of M)) (end_place M) ∷ bodies_code M (bodies_of M) in
     let len : length before + 2 * k ≡ entering_place M k = place_is (length (bodies_code M (bodies_of M))) (length_of_bodies (bodies_of M)) k (length_of_all (first_entering M) (end_place M) (bodies_of M)) in
@@ -283,18 +283,27 @@ answers : (M : Model) (pace : Pace) (is_pace : IsPace pace) (config : Config) (d
 answers M pace is_pace config d n s before at answered =
     carried_is_answered (Rests M) Halts (machine_of M) (λ at. is_some (serves M at)) pace is_pace (code_of M) config d n s before answered.ways at (answered.carries n)
 
+-- what holds where code carries out a doing holds of something
+abbrev pub Holds : Type 1
+Holds = Config → Doing Active → State → Type 0
+
+abbrev pub WhereCarried : (M : Model) (pace : Pace) → IsPace pace → Holds → Type 1
+WhereCarried M pace is_pace P =
+    (config : Config) (d : Doing Active) (s : State) (before : Standing) → before s config → Answered M pace is_pace before d → P config d s
+
 -- ---- the start
 
-pub starts : (M : Model) → IsBasic M → (pace : Pace) → IsPace pace → (n : ℕ) → Answers (Rests M) Halts (machine_of M) pace (paced_size pace (code_of M)) ((machine_of M).begin None (first_slots M.types (code_of M))) n (start M n (first_state M))
-starts M is pace is_pace n =
+-- the code carries out the start
+pub starts_with : (M : Model) → IsBasic M → (pace : Pace) (is_pace : IsPace pace) (P : Holds) → WhereCarried M pace is_pace P → P ((machine_of M).begin None (first_slots M.types (code_of M))) (start M) (first_state M)
+starts_with M is pace is_pace P holds =
     let st = start_is M is.formed is.basic in
     let first = slots_at (pos 0) (pos 0) in
     let config : Config = Running first (frame 1 0) [] in
     let begun_is : (machine_of M).begin None (first_slots M.types (code_of M)) ≡ config = ap (λ o. entered o first) (start_placed M is.fair) in
     let before = Here (pos 0) (pos 0) 1 0 [] in
-    subst (λ c. Answers (Rests M) Halts (machine_of M) pace (paced_size pace (code_of M)) c n (start M n (first_state M))) (sym begun_is)
-    (subst (λ d. Answers (Rests M) Halts (machine_of M) pace (paced_size pace (code_of M)) config n (d n (first_state M))) (sym (start_is_whole M st))
-    (answers M pace is_pace config (whole M (Some st.start.body) None) n (first_state M) before
+    subst (λ c. P c (start M) (first_state M)) (sym begun_is)
+    (subst (λ d. P config d (first_state M)) (sym (start_is_whole M st))
+    (holds config (whole M (Some st.start.body) None) (first_state M) before
     (record {
       is = refl;
       bare = record {
@@ -312,12 +321,12 @@ starts M is pace is_pace n =
 -- ---- stimuli
 
 -- an incoming signal without values
-record IsSent (M : Model) (k : ℕ) (vs : List Value) : Type 0 where
+pub record IsSent (M : Model) (k : ℕ) (vs : List Value) : Type 0 where
   pub signal : Signals.Signal
   pub at : slice_get M.signals k ≡ Some signal
   pub incoming : signal.incoming ≡ true
 
-sent_by : (M : Model) (k : ℕ) (vs : List Value) (o : Option Signals.Signal) → slice_get M.signals k ≡ o → is_sent M o vs ≡ true → IsSent M k vs
+pub sent_by : (M : Model) (k : ℕ) (vs : List Value) (o : Option Signals.Signal) → slice_get M.signals k ≡ o → is_sent M o vs ≡ true → IsSent M k vs
 sent_by M k vs None e h = absurd (false≢true h)
 sent_by M k vs (Some s) e h = record { signal = s; at = e; incoming = left_of s.incoming (are_in M s.sorts vs) h }
 
@@ -336,14 +345,14 @@ handler_there M (g ∷ hs) k h plain known found = choose (is_input k g.trigger)
     choose false e later = later e
 
 -- where the choices of a signal stand
-choice_placed : (M : Model) (k st : ℕ) (d : StateDef) (h : Handler) → slice_get (states_of M) st ≡ Some d → handler_in k d.handlers ≡ Some h → ChoiceAt (signal_code M k) (choice_cases k 0 2 (states_of M)) 2 (2 + length (choices_code k (states_of M))) st h.body
+pub choice_placed : (M : Model) (k st : ℕ) (d : StateDef) (h : Handler) → slice_get (states_of M) st ≡ Some d → handler_in k d.handlers ≡ Some h → ChoiceAt (signal_code M k) (choice_cases k 0 2 (states_of M)) 2 (2 + length (choices_code k (states_of M))) st h.body
 choice_placed M k st d h at has =
     let before = instr.Branch is_stopped (signal_end M k) ∷ instr.Table (read region) (choice_cases k 0 2 (states_of M)) (signal_end M k) ∷ [] in
     subst (λ n. ChoiceAt (signal_code M k) (choice_cases k 0 2 (states_of M)) 2 (2 + length (choices_code k (states_of M))) n h.body) (none_more st)
     (handled_placed k 0 st before (instr.Back ∷ []) (states_of M) d h at has)
 
 -- behind them the function ends
-end_placed : (M : Model) (k : ℕ) → slice_get (signal_code M k) (signal_end M k) ≡ Some instr.Back
+pub end_placed : (M : Model) (k : ℕ) → slice_get (signal_code M k) (signal_end M k) ≡ Some instr.Back
 end_placed M k =
     let before = instr.Branch is_stopped (signal_end M k) ∷ instr.Table (read region) (choice_cases k 0 2 (states_of M)) (signal_end M k) ∷ choices_code k (states_of M) in
     ap (slice_get (signal_code M k)) (two_more (length (choices_code k (states_of M)))) ∙ (has_at before (instr.Back ∷ []) []).0
@@ -373,7 +382,7 @@ signal_passes M is pace is_pace k signal placed r x to leads le =
     apart f q x y = let a = x.1 in let b = y.1 in omega (arith, a, b)
 
 -- what a state does with the signal
-takes_by : (M : Model) → IsBasic M → (pace : Pace) (is_pace : IsPace pace) (k : ℕ) (vs : List Value) (sent : IsSent M k vs) (placed : SignalAt M k sent.signal) (st : ℕ) (d : StateDef) (x : ℤ) → slice_get (states_of M) st ≡ Some d → StateIs M d
+pub takes_by : (M : Model) → IsBasic M → (pace : Pace) (is_pace : IsPace pace) (k : ℕ) (vs : List Value) (sent : IsSent M k vs) (placed : SignalAt M k sent.signal) (st : ℕ) (d : StateDef) (x : ℤ) → slice_get (states_of M) st ≡ Some d → StateIs M d
     → (o : Option Handler) → handler_in k d.handlers ≡ o → Answered M pace is_pace (Here (pos st) x placed.function 0 []) (step M (At st Basic) (Shows.Signal k vs))
 takes_by M is pace is_pace k vs sent placed st d x at st_is None none =
     let f = placed.function in
@@ -425,29 +434,35 @@ takes_by M is pace is_pace k vs sent placed st d x at st_is (Some h) has =
           same_doing (coded M pace is_pace) fuel (whole M (Some h.body) (Some st)) (step M (At st Basic) (Shows.Signal k vs)) before (Returned (Rests M) Halts (machine_of M)) taken.ways (λ n s. step_takes M st d k vs n s h at st_is has facts.0) (taken.carries fuel);
     }
 
-takes_signal : (M : Model) → IsBasic M → (pace : Pace) → IsPace pace → (k : ℕ) (vs : List Value) → IsSent M k vs → (st : ℕ) (d : StateDef) (x : ℤ) (s : State) → slice_get (states_of M) st ≡ Some d → HasNoData s → (n : ℕ) → Answers (Rests M) Halts (machine_of M) pace (paced_size pace (code_of M)) ((machine_of M).begin (Some (Shows.Signal k vs)) (slots_at (pos st) x)) n (step M (At st Basic) (Shows.Signal k vs) n s)
-takes_signal M is pace is_pace k vs sent st d x s at bare n =
+-- the function of a signal is called
+pub signal_begins : (M : Model) (is : IsBasic M) (k : ℕ) (vs : List Value) (sent : IsSent M k vs) (slots : List Cells) → (machine_of M).begin (Some (Shows.Signal k vs)) slots ≡ Running slots (frame (signal_at M is.fair k sent.signal sent.at sent.incoming).function 0) []
+signal_begins M is k vs sent slots =
+    let placed = signal_at M is.fair k sent.signal sent.at sent.incoming in
+    ap (λ fields. entered (place_in (interface.signal_function M k) (flat_function_names (code_of M))) (inputs_set M (slot_names (code_of M)) fields vs slots)) (no_inputs M is.basic k sent.signal sent.at)
+    ∙ ap (λ o. entered o slots) placed.placed
+
+signal_with : (M : Model) → IsBasic M → (pace : Pace) (is_pace : IsPace pace) (P : Holds) → WhereCarried M pace is_pace P → (k : ℕ) (vs : List Value) → IsSent M k vs → (st : ℕ) (d : StateDef) (x : ℤ) (s : State) → slice_get (states_of M) st ≡ Some d → HasNoData s → P ((machine_of M).begin (Some (Shows.Signal k vs)) (slots_at (pos st) x)) (step M (At st Basic) (Shows.Signal k vs)) s
+signal_with M is pace is_pace P holds k vs sent st d x s at bare =
     let placed = signal_at M is.fair k sent.signal sent.at sent.incoming in
     let slots = slots_at (pos st) x in
     let config : Config = Running slots (frame placed.function 0) [] in
-    let begun_is : (machine_of M).begin (Some (Shows.Signal k vs)) slots ≡ config =
-    ap (λ fields. entered (place_in (interface.signal_function M k) (flat_function_names (code_of M))) (inputs_set M (slot_names (code_of M)) fields vs slots)) (no_inputs M is.basic k sent.signal sent.at)
-    ∙ ap (λ o. entered o slots) placed.placed in
-    subst (λ c. Answers (Rests M) Halts (machine_of M) pace (paced_size pace (code_of M)) c n (step M (At st Basic) (Shows.Signal k vs) n s)) (sym begun_is)
-    (answers M pace is_pace config (step M (At st Basic) (Shows.Signal k vs)) n s (Here (pos st) x placed.function 0 []) (record { is = refl; bare = bare })
+    subst (λ c. P c (step M (At st Basic) (Shows.Signal k vs)) s) (sym (signal_begins M is k vs sent slots))
+    (holds config (step M (At st Basic) (Shows.Signal k vs)) s (Here (pos st) x placed.function 0 []) (record { is = refl; bare = bare })
     (takes_by M is pace is_pace k vs sent placed st d x at (state_is M is.formed is.basic st d at) (handler_in k d.handlers) refl))
 
--- no timer expires, since there is none
-takes : (M : Model) → IsBasic M → (pace : Pace) → IsPace pace → (a : Active) (s : State) (slots : List Cells) → Rests M a s slots → (x : Stimulus) → IsTrue (is_stimulus M x) → (n : ℕ) → Answers (Rests M) Halts (machine_of M) pace (paced_size pace (code_of M)) ((machine_of M).begin (Some x) slots) n (step M a x n s)
-takes M is pace is_pace a s slots rests (Shows.Signal k vs) sent n =
+pub no_timer : (M : Model) → IsBasic M → (t : ℕ) → IsTrue (nat_lt t (length M.timers)) → ⊥
+no_timer M is t sent = no_number (ltb-true t (length M.timers) sent)
+  where
+    no_number : t < length M.timers → ⊥
+    no_number lt = let e = ap length is.basic.no_timers in omega (arith, lt, e)
+
+-- the code carries out each stimulus; no timer expires, since there is none
+pub takes_with : (M : Model) → IsBasic M → (pace : Pace) (is_pace : IsPace pace) (P : Holds) → WhereCarried M pace is_pace P → (a : Active) (s : State) (slots : List Cells) → Rests M a s slots → (x : Stimulus) → IsTrue (is_stimulus M x) → P ((machine_of M).begin (Some x) slots) (step M a x) s
+takes_with M is pace is_pace P holds a s slots rests (Shows.Signal k vs) sent =
     rw rests.is
     (rw rests.holds
-    (takes_signal M is pace is_pace k vs (sent_by M k vs (slice_get M.signals k) refl sent) rests.state rests.def rests.x s rests.there (record { variables = rests.variables; timers = rests.timers }) n))
-takes M is pace is_pace a s slots rests (Shows.Expiry t) sent n =
-    absurd (no_timer (ltb-true t (length M.timers) sent))
-  where
-    no_timer : t < length M.timers → ⊥
-    no_timer lt = let e = ap length is.basic.no_timers in omega (arith, lt, e)
+    (signal_with M is pace is_pace P holds k vs (sent_by M k vs (slice_get M.signals k) refl sent) rests.state rests.def rests.x s rests.there (record { variables = rests.variables; timers = rests.timers })))
+takes_with M is pace is_pace P holds a s slots rests (Shows.Expiry t) sent = absurd (no_timer M is t sent)
 
 -- ---- the whole
 
@@ -459,13 +474,17 @@ rest_is_shown M is a s slots rests =
     ∙ ap (λ vs. Shows.Rest (paths_of M.root a) vs []) (sym rests.variables)
     ∙ ap (λ ts. Shows.Rest (paths_of M.root a) s.store.variables ts) (sym rests.timers)
 
+abbrev AnswersWith : Model → Pace → ℕ → Holds
+AnswersWith M pace n config d s = Answers (Rests M) Halts (machine_of M) pace (paced_size pace (code_of M)) config n (d n s)
+
 pub simulates : (M : Model) → IsBasic M → (pace : Pace) → IsPace pace → Simulates M (machine_of M) pace (paced_size pace (code_of M)) (first_slots M.types (code_of M)) (Rests M) Halts
 simulates M is pace is_pace = record {
   is_pace = is_pace;
   stays = record { over = λ slots. refl; broken = λ trouble. refl };
   rest_is_shown = rest_is_shown M is;
   halt_is_shown = λ s slots halts. absurd halts;
-  starts = starts M is pace is_pace;
-  takes = takes M is pace is_pace;
+  starts = λ n. starts_with M is pace is_pace (AnswersWith M pace n) (λ config d s before at answered. answers M pace is_pace config d n s before at answered);
+  takes = λ a s slots rests x sent n.
+      takes_with M is pace is_pace (AnswersWith M pace n) (λ config d s before at answered. answers M pace is_pace config d n s before at answered) a s slots rests x sent;
   halted = λ s slots halts. absurd halts;
 }
