@@ -1,5 +1,5 @@
 -- The runs of the code of a model are cut into the units of the model.
-use Rattle.std.proofs.Common.{◌≡◌, ℕ, zero, suc, ◌+◌, ℤ, pos, negsuc, true, List, [], ◌∷◌, ◌++◌, map, length, slice_get, Option, Some, None, refl, sym, ap, subst, ◌∙◌, arith, IsTrue}
+use Rattle.std.proofs.Common.{◌≡◌, ℕ, ◌+◌, ℤ, pos, negsuc, true, List, [], ◌∷◌, ◌++◌, map, slice_get, Option, Some, None, refl, sym, ap, subst, ◌∙◌, arith, IsTrue}
 use Rattle.std.specs.Option.{is_some, option_map}
 use Rattle.std.proofs.lemmas.Bool.{false≢true}
 use Rattle.og_types.specs.declared.Value.{Value}
@@ -13,10 +13,10 @@ use Rattle.og_model.specs.declared.Step.{Step}
 use Rattle.og_model.specs.Shown as Shows
 use Rattle.og_model.specs.Shown.{Event, Stimulus}
 use Rattle.og_model.specs.Units.{State, Done, Doing}
-use Rattle.og_model.specs.Configuration.{Active, At, Basic}
+use Rattle.og_model.specs.Configuration.{Active}
 use Rattle.og_model.specs.Choice.{Found}
 use Rattle.og_model.specs.Moving.{start_named}
-use Rattle.og_model.specs.Run.{first_state, start, step}
+use Rattle.og_model.specs.Run.{start, step}
 use Rattle.og_ir.specs.declared.FlatFn.{FlatFn}
 use Rattle.og_ir.specs.declared.Instr.{Instr}
 use Rattle.og_ir.specs.declared.Instr.TheVariants as instr
@@ -29,17 +29,17 @@ use Rattle.og_csubset.specs.Paced.{Pace, IsPace}
 use Rattle.og_csubset.specs.Run.{entered}
 use Rattle.og_follow.specs.Cuts.{places_of, IsCut}
 use Rattle.og_follow.proofs.Answering.{carried_is_cut, carried_rests}
-use Rattle.og_flatten.specs.FlatCode.{code_of, transition_function, transition_code, start_function, signal_function, signal_end, first_entering, entering_place, end_place, states_of, bodies_of, steps_of, end_of, body_cases, choice_code, choice_cases, handler_in, start_body, sets, region, chosen, read, is_stopped, action_at, step_at, kind_at, ending_at, body_at}
-use Rattle.og_flatten.specs.Units.{Cost, A_step, An_ending, An_entering, costs_of_steps, costs_of_ending, costs_of_entering, costs_of_body, costs_of, body_for, Beginning, at_start, at_stimulus, IsBeginning, The_start, A_stimulus, HasOwnUnits}
+use Rattle.og_flatten.specs.FlatCode.{code_of, transition_function, transition_code, start_function, signal_function, signal_end, first_entering, entering_place, end_place, states_of, bodies_of, steps_of, end_of, body_cases, choice_code, choice_cases, handler_in, start_body, sets, region, chosen, read, is_stopped, action_at, step_at, kind_at, ending_at}
+use Rattle.og_flatten.specs.Units.{Cost, A_step, An_ending, An_entering, costs_of_steps, costs_of_ending, costs_of_entering, costs_of_body, costs_of, body_for, Beginning, IsBeginning, The_start, A_stimulus, HasOwnUnits}
 use Rattle.og_flatten.proofs.SingleSteps.{slots_at, step_of, acts, fetches, sets_region, sets_chosen, table_of_chosen, table_of_region, not_stopped}
 use Rattle.og_flatten.proofs.Places.{HasAt, not_handled}
 use Rattle.og_flatten.proofs.Serving.{serving_steps, serves, ServesAt, served, serves_nothing, body_serves, state_serves}
-use Rattle.og_flatten.proofs.Basic.{StepsAre, BodyIs, body_is, StateIs, state_is, start_is}
+use Rattle.og_flatten.proofs.Basic.{StepsAre, body_is, StateIs, state_is, start_is}
 use Rattle.og_flatten.proofs.Meaning.{start_body_is, handler_is, found_of}
-use Rattle.og_flatten.proofs.Transitions.{frame, machine_of, Emits}
+use Rattle.og_flatten.proofs.Transitions.{frame, machine_of}
 use Rattle.og_flatten.proofs.Interfaces.{start_placed, signal_at, SignalAt, emits, there}
-use Rattle.og_flatten.proofs.Simulation.{IsBasic, none_more, body_placed, state_placed, Rests, Halts, Answered, Holds, WhereCarried, starts_with, takes_with, IsSent, sent_by, handler_there, choice_placed, end_placed, signal_begins, no_timer}
-use Rattle.og_flatten.proofs.Paths.{is_a_step, Starts, Runs, over_runs, step_runs, own_units}
+use Rattle.og_flatten.proofs.Simulation.{IsBasic, none_more, body_placed, state_placed, Rests, Halts, Holds, WhereCarried, starts_with, takes_with, IsSent, sent_by, handler_there, choice_placed, end_placed, signal_begins, no_timer}
+use Rattle.og_flatten.proofs.Paths.{Runs, over_runs, step_runs, own_units}
 
 -- ---- where a run ends, it ends once
 

@@ -1,11 +1,10 @@
 -- The units of a run of the code, in their order: a step of the code begins the unit that stands beside it, or none.
-use Rattle.std.proofs.Common.{◌≡◌, ℕ, zero, suc, ◌+◌, ℤ, pos, negsuc, Bool, true, false, List, [], ◌∷◌, ◌++◌, map, length, slice_get, Option, Some, None, refl, sym, ap, subst, ◌∙◌, arith}
+use Rattle.std.proofs.Common.{◌≡◌, ℕ, zero, suc, ◌+◌, Bool, true, false, List, [], ◌∷◌, ◌++◌, slice_get, Option, Some, None, refl, sym, ap, subst, ◌∙◌}
 use Rattle.std.specs.Option.{is_some, option_or}
 use Rattle.std.proofs.lemmas.Bool.{false≢true}
 use Rattle.std.proofs.lemmas.Option.{none-some}
 use Rattle.og_names.proofs.Truths.{same_value as some_is}
 use Rattle.og_model.specs.declared.Model.{Model}
-use Rattle.og_model.specs.declared.Step.{Step}
 use Rattle.og_model.specs.Shown.{Event}
 use Rattle.og_ir.specs.Cells.{Cells}
 use Rattle.og_ir.specs.Steps.{Frame, Config, Running, Over, Broken, Ran, exec}

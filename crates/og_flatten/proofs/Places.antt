@@ -52,7 +52,7 @@ pub length_append : {A : Type 0} (a b : List A) → length (a ++ b) ≡ length a
 length_append [] b = omega (arith)
 length_append (x ∷ a) b = let e = length_append a b in omega (arith, e)
 
-pub length_map : {A B : Type 0} (f : A → B) (xs : List A) → length (map f xs) ≡ length xs
+length_map : {A B : Type 0} (f : A → B) (xs : List A) → length (map f xs) ≡ length xs
 length_map f [] = refl
 length_map f (x ∷ xs) = ap suc (length_map f xs)
 

@@ -1,6 +1,6 @@
 -- Which unit each instruction of the code of a model begins, and where the units of a body and of a state stand.
-use Rattle.std.proofs.Common.{◌≡◌, ℕ, zero, suc, ◌+◌, ◌*◌, pos, Bool, true, false, nat_eq, if◌then◌else◌, List, [], ◌∷◌, ◌++◌, map, length, slice_get, Option, Some, None, refl, sym, ap, subst, ◌∙◌, arith}
-use Rattle.std.specs.Option.{is_some, option_and_then}
+use Rattle.std.proofs.Common.{◌≡◌, ℕ, zero, suc, ◌+◌, ◌*◌, pos, nat_eq, if◌then◌else◌, List, [], ◌∷◌, ◌++◌, length, slice_get, Option, Some, None, refl, sym, ap, subst, ◌∙◌, arith}
+use Rattle.std.specs.Option.{option_and_then}
 use Rattle.std.proofs.lemmas.Bool.{ne_eqb}
 use Rattle.std.proofs.lemmas.List.{append_assoc}
 use Rattle.std.proofs.lemmas.Option.{none-some}
@@ -13,7 +13,7 @@ use Rattle.og_ir.specs.FlatSteps.{case_of}
 use Rattle.og_ir.specs.Steps.{Frame}
 use Rattle.og_flatten.specs.FlatCode.{steps_of, bodies_of, states_of, body_length, length_of_bodies, body_cases, entering_place}
 use Rattle.og_flatten.specs.Units.{Cost, A_step, An_ending, An_entering}
-use Rattle.og_flatten.proofs.Places.{HasAt, has_at, length_append, length_map, same_number, other_number}
+use Rattle.og_flatten.proofs.Places.{HasAt, has_at, length_append, same_number, other_number}
 
 -- ---- a list beside the code of `transition`
 

@@ -1,3 +1,4 @@
 pub mod Code
 pub mod FlatCode
 pub mod Units
+pub mod Examples

@@ -1,7 +1,7 @@
--- What costs a unit of work in a model of basic states, and how the runs of its code are cut into these units: which unit an
--- instruction begins, that the units come in the order of the meaning, that no instruction is carried out twice between two of
--- them, and that what is carried out for a step serves nothing else.
-use Rattle.std.specs.Prelude.{◌≡◌, ℕ, zero, suc, ◌+◌, Bool, true, false, Option, Some, None, List, [], ◌∷◌, ◌++◌, if◌then◌else◌, get_or, slice_get, IsTrue}
+-- What costs a unit of work in a model of basic states, and how the runs of its code are cut into these units: which
+-- unit an instruction begins, that the units come in the order of the meaning, that no instruction is carried out twice
+-- between two of them, and that what is carried out for a step serves nothing else.
+use Rattle.std.specs.Prelude.{◌≡◌, ℕ, zero, suc, ◌+◌, false, Option, Some, None, List, [], ◌∷◌, ◌++◌, if◌then◌else◌, get_or, slice_get, IsTrue}
 use Rattle.std.specs.Option.{is_some, option_map, option_or}
 use Rattle.og_model.specs.declared.Model.{Model}
 use Rattle.og_model.specs.declared.Body.{Body}

@@ -15,6 +15,7 @@ ghost use Rattle.og_flatten.specs.FlatCode.{slots, event_word, end_place, functi
 
 mod chooser;
 mod code;
+pub mod examples;
 mod labels;
 mod transition;
 

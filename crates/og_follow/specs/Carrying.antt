@@ -18,7 +18,8 @@ use Rattle.og_follow.specs.Answers.{AtRest, AtHalt}
 use Rattle.og_follow.specs.Passing.{Passed, none_passed}
 use Rattle.og_follow.specs.Tracks.{Track, Stands}
 
--- the code that is followed: what one step does, at which places a unit begins, how many statements each takes, and the functions
+-- the code that is followed: what one step does, at which places a unit begins, how many statements each place takes,
+-- and the functions
 pub record Code : Type 0 where
   pub step : Config → Steps.Ran Event
   pub unit_at : Frame → Bool

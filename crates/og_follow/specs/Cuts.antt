@@ -1,6 +1,6 @@
--- A run of flat code, cut into units of work. Some instructions begin a unit, wherever they stand; a unit lasts until the next one
--- begins, and what is carried out before the first unit counts with it. In between no instruction, and no function's end, is
--- carried out twice.
+-- A run of flat code, cut into units of work. Some instructions begin a unit, wherever they are carried out; a unit
+-- lasts until the next one begins, and what is carried out before the first unit counts with it. In between no
+-- instruction, and no function's end, is carried out twice.
 use Rattle.std.specs.Prelude.{◌≡◌, ℕ, zero, suc, ◌+◌, ◌≤◌, ◌<◌, Bool, true, false, List, [], ◌∷◌, slice_get, take, Some}
 use Rattle.og_model.specs.Shown.{Event}
 use Rattle.og_model.specs.Units as Units
@@ -39,8 +39,8 @@ abbrev pub NoneTwice : (Frame → Bool) → List Frame → Type 0
 NoneTwice begins places =
     (i j : ℕ) (frame : Frame) → i < j → slice_get places i ≡ Some frame → slice_get places j ≡ Some frame → BegunBetween begins places i j
 
--- With n units the meaning runs so, and with so many steps the code does: it shows the same events and begins as many units, and
--- between two of them no place is carried out twice. Where the meaning has ended, the code has returned.
+-- With n units the meaning runs so, and with so many steps the code does: it shows the same events and begins as many
+-- units, and between two of them no place is carried out twice. Where the meaning has ended, the code has returned.
 pub record IsCut {A : Type 0} (step : Config → Ran Event) (begins : Frame → Bool) (config : Config) (n : ℕ) (r : Units.Ran A) : Type 0 where
   pub steps : ℕ
   pub now : Config

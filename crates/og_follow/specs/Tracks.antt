@@ -15,8 +15,8 @@ abbrev pub complete : ℕ → ℕ
 complete zero = zero
 complete (suc units) = units
 
--- the places of a run so far, one after the other; where a place is not among those passed since the last unit, another unit has
--- begun since it was carried out
+-- the places of a run so far, one after the other; where a place is not among those passed since the last unit,
+-- another unit has begun since it was carried out
 pub record Trail (step : Config → Ran Event) (unit_at : Frame → Bool) (first : Config) (units : ℕ) (events : List Event) (seen : Passed) (now : Config) : Type 0 where
   pub places : List Frame
   pub goes : (k : ℕ) → exec step (length places + k) first ≡ joined events (exec step k now)

@@ -128,8 +128,9 @@ pub fn more_is_carried_out<A>()
         → Always code (by_units d) (told before) (led after) (ways P) }
 {}
 
-/// Where code carries out the start, or a stimulus, from its call to its return, it answers it: with the events and the end of
-/// the meaning, and with at most so many statements for the units as the bound allows. Its run is cut into units as the meaning is.
+/// Where code carries out the start, or a stimulus, from its call to its return, it answers it: with the events and the
+/// end of the meaning, and with at most so many statements for the units as the bound allows. Its run is cut into units
+/// as the meaning is.
 pub fn what_is_carried_out_is_answered()
     ensures answered { (rests : Active → State → List Cells → Bool) (halts : State → List Cells → Bool)
         (machine : Machine) (unit_at : Frame → Bool) (pace : Pace) (is_pace : IsPace pace) (ir : Ir)

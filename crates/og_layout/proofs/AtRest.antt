@@ -1,5 +1,5 @@
 -- Slots that stand for a process at rest, with the names of the interface, are read as its end.
-use Rattle.std.proofs.Common.{◌≡◌, ℕ, suc, ◌+◌, ℤ, pos, negsuc, Bool, true, false, if◌then◌else◌, List, [], ◌∷◌, ◌++◌, map, length, slice_get, unwrap_or, Option, Some, None, refl, sym, ap, subst, ◌∙◌, arith}
+use Rattle.std.proofs.Common.{◌≡◌, ℕ, ◌+◌, ℤ, pos, Bool, true, false, if◌then◌else◌, List, [], ◌∷◌, ◌++◌, map, length, unwrap_or, Option, Some, None, refl, sym, ap, ◌∙◌, arith}
 use Rattle.std.proofs.lemmas.Option.{none-some}
 use Rattle.og_names.specs.declared.NameId.{NameId}
 use Rattle.og_types.specs.declared.Sort.{Sort}
@@ -13,13 +13,13 @@ use Rattle.og_model.specs.RegionTypes.{Region}
 use Rattle.og_model.specs.Regions.{regions}
 use Rattle.og_model.specs.Shown as Shows
 use Rattle.og_model.specs.Units.{State}
-use Rattle.og_ir.specs.Cells.{◌>>=◌, Cells, Cell, number_in, global}
-use Rattle.og_ir.specs.Reading.{truth_in, value_in}
+use Rattle.og_ir.specs.Cells.{◌>>=◌, Cells, number_in, global}
+use Rattle.og_ir.specs.Reading.{truth_in}
 use Rattle.og_csubset.specs.Interface as interface
 use Rattle.og_csubset.specs.Interface.{Field, variable_field, timer_field, region_field, stopped_name, kind_name}
 use Rattle.og_csubset.specs.Kinds.{place_in}
-use Rattle.og_csubset.specs.Reads.{Globals, cells_named, number_named, value_of_field, value_of_shape, all_of, path_of, active_path, paths_in, rest_end, end_without_fault, end_by_kind, end_of}
-use Rattle.og_layout.specs.Layout.{Layout, Held, A_value, A_number, Negative, Anything, Holds, Expected, HoldsAt, AllHold, Number, Leaf, NoLeaf, AnyLeaf, held_number, variables_in, timers_in, regions_in, besides, expected_of, region_numbers, marked, told_path, told_by, told_paths, IsActive, StandsFor}
+use Rattle.og_csubset.specs.Reads.{Globals, cells_named, number_named, value_of_field, value_of_shape, all_of, path_of, active_path, paths_in, end_without_fault, end_by_kind, end_of}
+use Rattle.og_layout.specs.Layout.{Layout, Held, A_value, A_number, Negative, Expected, HoldsAt, AllHold, Number, Leaf, NoLeaf, AnyLeaf, held_number, variables_in, timers_in, regions_in, besides, region_numbers, marked, told_path, told_by, told_paths, IsActive, StandsFor}
 use Rattle.og_layout.specs.Named.{AllNamed, IsNamed, HasAll, IsNumberOf, AreNumbersOf}
 use Rattle.og_layout.proofs.Telling.{numbers_tell, numbers_known}
 
