@@ -10,11 +10,14 @@ pub mod Named
 pub mod Apart
 pub mod SingleSteps
 pub mod Places
+pub mod Serving
 pub mod Basic
 pub mod Meaning
 pub mod Transitions
 pub mod Interfaces
 pub mod Simulation
+pub mod Paths
+pub mod OwnUnits
 pub mod Behaviour
 pub mod FairCode
 pub mod Composed

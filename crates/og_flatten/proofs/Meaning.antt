@@ -24,7 +24,7 @@ use Rattle.og_model.specs.Forms.{is_plain_trigger}
 use Rattle.og_model.specs.Actions.{Setting, Remainder, Next, in_scope, going_at, values_of, sorts_of, act_on, end_with, run, perform}
 use Rattle.og_model.specs.Configuration.{Active, At, Basic, kind_of, state_at, kind_at, paths_of, paths_under, paths_inside}
 use Rattle.og_model.specs.Choice.{Here, Found, meets, own_handler, found_in, handler_inside, handler_of}
-use Rattle.og_model.specs.Moving.{In, out_of, leave, hook, exit_of, transition, same_point, after, assign_values, enter_kind, enter_by, enter, at_root, fire}
+use Rattle.og_model.specs.Moving.{In, out_of, leave, hook, exit_of, transition, same_point, start_named, after, assign_values, enter_kind, enter_by, enter, at_root, fire}
 use Rattle.og_model.specs.Settling.{provided_by, own_continuous, continuous_at, continuous_inside, continuous_of, ordered, first_of, settle_by, settle}
 use Rattle.og_model.specs.Run.{start, step, handled, variables_of}
 use Rattle.og_flatten.specs.FlatCode.{bodies_of, states_of, steps_of, end_of, is_input, handler_in}
@@ -107,11 +107,14 @@ whole M body origin =
 
 -- ---- the start
 
-pub start_is_whole : (M : Model) (is : StartIs M) → start M ≡ whole M (Some is.start.body) None
-start_is_whole M is = ap (λ o. whole M o None) (ap (λ starts. option_map (λ (x : Start). x.body) (find (λ (x : Start). same_point x.entry None) starts)) is.is ∙ found is.start is.unnamed)
+pub start_body_is : (M : Model) (is : StartIs M) → start_named M.root None ≡ Some is.start.body
+start_body_is M is = ap (λ starts. option_map (λ (x : Start). x.body) (find (λ (x : Start). same_point x.entry None) starts)) is.is ∙ found is.start is.unnamed
   where
     found : (x : Start) → x.entry ≡ None → option_map (λ (x : Start). x.body) (find (λ (x : Start). same_point x.entry None) (x ∷ [])) ≡ Some x.body
     found x e = ap (λ b. option_map (λ (x : Start). x.body) (if b then Some x else find (λ (x : Start). same_point x.entry None) [])) (ap (λ o. same_point o None) e)
+
+pub start_is_whole : (M : Model) (is : StartIs M) → start M ≡ whole M (Some is.start.body) None
+start_is_whole M is = ap (λ o. whole M o None) (start_body_is M is)
 
 -- ---- a signal
 

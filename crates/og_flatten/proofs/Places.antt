@@ -15,11 +15,11 @@ use Rattle.og_ir.specs.FlatSteps.{case_of}
 use Rattle.og_flatten.specs.FlatCode.{steps_of, end_of, handler_in, sets, region, body_length, length_of_bodies, body_cases, step_at, ending_at, body_at, bodies_at, entering_code, choice_code, handled_code, choices_code, handled_case, choice_cases}
 use Rattle.og_names.proofs.Truths.{same_value as some_is}
 
-same_number : (a : ℕ) → is_same (pos a) (pos a) ≡ true
+pub same_number : (a : ℕ) → is_same (pos a) (pos a) ≡ true
 same_number a =
     let le : a ≤ a = omega (arith) in ap (λ b. b && b) (le-leb a a le)
 
-other_number : (a b : ℕ) → (a ≡ b → ⊥) → is_same (pos a) (pos b) ≡ false
+pub other_number : (a b : ℕ) → (a ≡ b → ⊥) → is_same (pos a) (pos b) ≡ false
 other_number a b other = choose (leb_tells a b) (leb_tells b a)
   where
     choose : ((nat_le a b ≡ true) × (a ≤ b)) ⊎ ((nat_le a b ≡ false) × (b < a)) → ((nat_le b a ≡ true) × (b ≤ a)) ⊎ ((nat_le b a ≡ false) × (a < b)) → (nat_le a b && nat_le b a) ≡ false
@@ -28,19 +28,19 @@ other_number a b other = choose (leb_tells a b) (leb_tells b a)
     choose (inl (t, le)) (inl (u, ge)) = absurd (other (omega (arith, le, ge)))
 
 -- these stand one after the other from a place on
-abbrev pub HasAt : List Instr → ℕ → List Instr → Type 0
+abbrev pub HasAt : {A : Type 0} → List A → ℕ → List A → Type 0
 HasAt code place [] = Unit {0}
 HasAt code place (i ∷ is) = (slice_get code place ≡ Some i) × HasAt code (place + 1) is
 
-get_behind : (before rest : List Instr) (i : Instr) → slice_get (before ++ i ∷ rest) (length before) ≡ Some i
+get_behind : {A : Type 0} (before rest : List A) (i : A) → slice_get (before ++ i ∷ rest) (length before) ≡ Some i
 get_behind [] rest i = refl
 get_behind (b ∷ before) rest i = get_behind before rest i
 
-length_more : (before : List Instr) (i : Instr) → length (before ++ i ∷ []) ≡ length before + 1
+length_more : {A : Type 0} (before : List A) (i : A) → length (before ++ i ∷ []) ≡ length before + 1
 length_more [] i = refl
 length_more (b ∷ before) i = let e = length_more before i in omega (arith, e)
 
-pub has_at : (before is rest : List Instr) → HasAt (before ++ (is ++ rest)) (length before) is
+pub has_at : {A : Type 0} (before is rest : List A) → HasAt (before ++ (is ++ rest)) (length before) is
 has_at before [] rest = tt
 has_at before (i ∷ is) rest = (
   get_behind before (is ++ rest) i,
@@ -48,11 +48,11 @@ has_at before (i ∷ is) rest = (
       (subst (λ code. HasAt code (length (before ++ i ∷ [])) is) (append_assoc before (i ∷ []) (is ++ rest)) (has_at (before ++ i ∷ []) is rest)),
 )
 
-length_append : (a b : List Instr) → length (a ++ b) ≡ length a + length b
+pub length_append : {A : Type 0} (a b : List A) → length (a ++ b) ≡ length a + length b
 length_append [] b = omega (arith)
 length_append (x ∷ a) b = let e = length_append a b in omega (arith, e)
 
-length_map : {A : Type 0} (f : A → Instr) (xs : List A) → length (map f xs) ≡ length xs
+length_map : {A B : Type 0} (f : A → B) (xs : List A) → length (map f xs) ≡ length xs
 length_map f [] = refl
 length_map f (x ∷ xs) = ap suc (length_map f xs)
 

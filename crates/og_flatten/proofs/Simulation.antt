@@ -1,5 +1,6 @@
 -- The code of a model of basic states answers the start and each stimulus as the meaning of the model does.
 use Rattle.std.proofs.Common.{◌≡◌, ℕ, suc, ◌+◌, ◌*◌, ◌≤◌, ◌<◌, ℤ, pos, negsuc, Bool, true, false, nat_lt, cond, List, [], ◌∷◌, ◌++◌, map, length, slice_get, Option, Some, None, inl, inr, unwrap_or, refl, sym, ap, subst, ◌∙◌, arith, IsTrue}
+use Rattle.std.specs.Option.{is_some}
 use Rattle.std.specs.List.{list_all}
 use Rattle.std.proofs.lemmas.Bool.{false≢true, ltb-true}
 use Rattle.std.proofs.lemmas.Option.{none-some}
@@ -45,6 +46,7 @@ use Rattle.og_follow.proofs.Carrying.{passes_on, passes_then, then_passes, only_
 use Rattle.og_follow.proofs.Answering.{carried_is_answered}
 use Rattle.og_flatten.proofs.SingleSteps.{slots_at, sets_region, sets_chosen, table_of_chosen, table_of_region, not_stopped}
 use Rattle.og_flatten.proofs.Places.{HasAt, BodyAt, bodies_placed, entering_placed, length_of_all, ChoiceAt, handled_placed, not_handled, has_at}
+use Rattle.og_flatten.proofs.Serving.{serves, serves_nothing, body_serves, state_serves, served}
 use Rattle.og_flatten.proofs.Basic.{body_is, StateIs, state_is, start_is}
 use Rattle.og_flatten.proofs.Meaning.{whole, start_is_whole, step_takes, step_discards, paths_are}
 use Rattle.og_flatten.proofs.Transitions.{frame, machine_of, HasNoData, Here, Left, from_to, whole_places, whole_ways, done≢out, coded, goes, returns, carries_whole}
@@ -57,17 +59,17 @@ pub record IsBasic (M : Model) : Type 0 where
   pub basic : UsesBasicStatesOnly M
   pub fair : Fair (code_of M) M
 
-none_more : (k : ℕ) → 0 + k ≡ k
+pub none_more : (k : ℕ) → 0 + k ≡ k
 none_more k = omega (arith)
 
 -- ---- where bodies and entering code stand
 
-body_placed : (M : Model) (k : ℕ) (b : Body) → slice_get (bodies_of M) k ≡ Some b → BodyAt (first_entering M) (end_place M) (transition_code M) (body_cases 0 1 (bodies_of M)) 1 (first_entering M) k b
+pub body_placed : (M : Model) (k : ℕ) (b : Body) → slice_get (bodies_of M) k ≡ Some b → BodyAt (first_entering M) (end_place M) (transition_code M) (body_cases 0 1 (bodies_of M)) 1 (first_entering M) k b
 body_placed M k b at =
     subst (λ n. BodyAt (first_entering M) (end_place M) (transition_code M) (body_cases 0 1 (bodies_of M)) 1 (first_entering M) n b) (none_more k)
     (bodies_placed (first_entering M) (end_place M) 0 k (instr.Table (read chosen) (body_cases 0 1 (bodies_of M)) (end_place M) ∷ []) (entering_code 0 (states_of M) ++ instr.Back ∷ []) (bodies_of M) b at)
 
-state_placed : (M : Model) (k : ℕ) (d : StateDef) → slice_get (states_of M) k ≡ Some d → HasAt (transition_code M) (entering_place M k) (sets region (pos k) ∷ instr.Back ∷ [])
+pub state_placed : (M : Model) (k : ℕ) (d : StateDef) → slice_get (states_of M) k ≡ Some d → HasAt (transition_code M) (entering_place M k) (sets region (pos k) ∷ instr.Back ∷ [])
 state_placed M k d at =
     let before = instr.Table (read chosen) (body_cases 0 1 (bodies_of M)) (end_place M) ∷ bodies_code M (bodies_of M) in
     let len : length before + 2 * k ≡ entering_place M k = place_is (length (bodies_code M (bodies_of M))) (length_of_bodies (bodies_of M)) k (length_of_all (first_entering M) (end_place M) (bodies_of M)) in
@@ -201,10 +203,10 @@ choice_passes M pace is_pace r x f p g body b placed at code other =
     let back = frame f (p + 1 + 1) ∷ [] in
     passes_on (coded M pace is_pace) (Here r x f p []) [] (Here r y 0 0 back) [] (Here r y 0 placed.place back) (either (place f p) (place f (p + 1))) (place 0 0)
     (passes_on (coded M pace is_pace) (Here r x f p []) [] (Here r y f (p + 1) []) [] (Here r y 0 0 back) (place f p) (place f (p + 1))
-    (goes M pace is_pace r x f p [] r y f (p + 1) [] g (sets chosen y) at code.0 (sets_chosen M r x y (frame f p) []))
-    (goes M pace is_pace r y f (p + 1) [] r y 0 0 back g (instr.Call 0) at code.1.0 refl)
+    (goes M pace is_pace r x f p [] r y f (p + 1) [] g (sets chosen y) (serves_nothing M f p other) at code.0 (sets_chosen M r x y (frame f p) []))
+    (goes M pace is_pace r y f (p + 1) [] r y 0 0 back g (instr.Call 0) (serves_nothing M f (p + 1) other) at code.1.0 refl)
     second_apart)
-    (goes M pace is_pace r y 0 0 back r y 0 placed.place back (transition_function M) (instr.Table (read chosen) (body_cases 0 1 (bodies_of M)) (end_place M)) refl refl
+    (goes M pace is_pace r y 0 0 back r y 0 placed.place back (transition_function M) (instr.Table (read chosen) (body_cases 0 1 (bodies_of M)) (end_place M)) refl refl refl
     (table_of_chosen M r y (frame 0 0) back (body_cases 0 1 (bodies_of M)) (end_place M)
     ∙ ap (λ q. quiet (Running (slots_at r y) (frame 0 q) back)) (placed.leads (end_place M))))
     third_apart
@@ -264,11 +266,11 @@ chooses M is pace is_pace r x f p g body origin lt at code other before passes =
           (passes_on code_of_it before [] (Here r x f p []) [] (Here r y 0 a back) (before_choice f p) (at_choice f p) passes
           (choice_passes M pace is_pace r x f p g body b placed at code other) (choice_apart f p other))
           (then_passes code_of_it fuel whole_one (Here r y 0 a back) (only (Done (At k Basic)) (Here (pos k) y 0 (e + 1) back)) (only (Done (At k Basic)) (Left (pos k) y)) Z (whole_ways a end e)
-          (carries_whole M pace is_pace (emits M is.basic is.fair) r y back a body b origin found.1 b_is entered.0 entered.1 (state_is M is.formed is.basic k entered.0 entered.1) placed.code_there entering fuel)
+          (carries_whole M pace is_pace (emits M is.basic is.fair) r y back a body b origin found.1 b_is entered.0 entered.1 (state_is M is.formed is.basic k entered.0 entered.1) placed.code_there (body_serves M body b a found.1 (placed.leads 0)) entering fuel)
           (only_passes code_of_it (Done (At k Basic)) (Here (pos k) y 0 (e + 1) back) (Left (pos k) y) Z
           (passes_on code_of_it (Here (pos k) y 0 (e + 1) back) [] (Here (pos k) y f (p + 1 + 1) []) [] (Left (pos k) y) (place 0 (e + 1)) (place f (p + 1 + 1))
-          (goes M pace is_pace (pos k) y 0 (e + 1) back (pos k) y f (p + 1 + 1) [] (transition_function M) instr.Back refl entering.1.0 refl)
-          (returns M pace is_pace (pos k) y f (p + 1 + 1) g at code.1.1.0)
+          (goes M pace is_pace (pos k) y 0 (e + 1) back (pos k) y f (p + 1 + 1) [] (transition_function M) instr.Back (served M (e + 1) None (state_serves M k entered.0 entered.1).1.0) refl entering.1.0 refl)
+          (returns M pace is_pace (pos k) y f (p + 1 + 1) g (serves_nothing M f (p + 1 + 1) other) at code.1.1.0)
           (returns_apart e f (p + 1 + 1) other)))
           (λ h q u v. v) (behind_whole e f (p + 1 + 1) a end other (omega (arith, to))) (behind_whole e f (p + 1 + 1) a end other (omega (arith, to))))
           (returns_new e f p other) (whole_new e f p a end other from (omega (arith))));
@@ -279,20 +281,29 @@ chooses M is pace is_pace r x f p g body origin lt at code other before passes =
 -- what is carried out from here is answered
 answers : (M : Model) (pace : Pace) (is_pace : IsPace pace) (config : Config) (d : Doing Active) (n : ℕ) (s : State) (before : Standing) → before s config → Answered M pace is_pace before d → Answers (Rests M) Halts (machine_of M) pace (paced_size pace (code_of M)) config n (d n s)
 answers M pace is_pace config d n s before at answered =
-    carried_is_answered (Rests M) Halts (machine_of M) pace is_pace (code_of M) config d n s before answered.ways at (answered.carries n)
+    carried_is_answered (Rests M) Halts (machine_of M) (λ at. is_some (serves M at)) pace is_pace (code_of M) config d n s before answered.ways at (answered.carries n)
+
+-- what holds where code carries out a doing holds of something
+abbrev pub Holds : Type 1
+Holds = Config → Doing Active → State → Type 0
+
+abbrev pub WhereCarried : (M : Model) (pace : Pace) → IsPace pace → Holds → Type 1
+WhereCarried M pace is_pace P =
+    (config : Config) (d : Doing Active) (s : State) (before : Standing) → before s config → Answered M pace is_pace before d → P config d s
 
 -- ---- the start
 
-pub starts : (M : Model) → IsBasic M → (pace : Pace) → IsPace pace → (n : ℕ) → Answers (Rests M) Halts (machine_of M) pace (paced_size pace (code_of M)) ((machine_of M).begin None (first_slots M.types (code_of M))) n (start M n (first_state M))
-starts M is pace is_pace n =
+-- the code carries out the start
+pub starts_with : (M : Model) → IsBasic M → (pace : Pace) (is_pace : IsPace pace) (P : Holds) → WhereCarried M pace is_pace P → P ((machine_of M).begin None (first_slots M.types (code_of M))) (start M) (first_state M)
+starts_with M is pace is_pace P holds =
     let st = start_is M is.formed is.basic in
     let first = slots_at (pos 0) (pos 0) in
     let config : Config = Running first (frame 1 0) [] in
     let begun_is : (machine_of M).begin None (first_slots M.types (code_of M)) ≡ config = ap (λ o. entered o first) (start_placed M is.fair) in
     let before = Here (pos 0) (pos 0) 1 0 [] in
-    subst (λ c. Answers (Rests M) Halts (machine_of M) pace (paced_size pace (code_of M)) c n (start M n (first_state M))) (sym begun_is)
-    (subst (λ d. Answers (Rests M) Halts (machine_of M) pace (paced_size pace (code_of M)) config n (d n (first_state M))) (sym (start_is_whole M st))
-    (answers M pace is_pace config (whole M (Some st.start.body) None) n (first_state M) before
+    subst (λ c. P c (start M) (first_state M)) (sym begun_is)
+    (subst (λ d. P config d (first_state M)) (sym (start_is_whole M st))
+    (holds config (whole M (Some st.start.body) None) (first_state M) before
     (record {
       is = refl;
       bare = record {
@@ -302,7 +313,7 @@ starts M is pace is_pace n =
     })
     (chooses M is pace is_pace (negsuc 0) (pos 0) 1 1 (start_function M) st.start.body None st.there refl (ap (λ starts. Some (sets chosen (pos (start_body starts)))) st.is, (refl, (refl, tt))) (λ e. omega (arith, e)) before
     (passes_wider (coded M pace is_pace) before before [] (Here (negsuc 0) (pos 0) 1 1 []) (Here (negsuc 0) (pos 0) 1 1 []) (place 1 0) (before_choice 1 1) (λ s now h. h) (λ s now h. h) among
-    (goes M pace is_pace (pos 0) (pos 0) 1 0 [] (negsuc 0) (pos 0) 1 1 [] (start_function M) (sets region (negsuc 0)) refl refl (sets_region M (pos 0) (pos 0) (negsuc 0) (frame 1 0) []))))))
+    (goes M pace is_pace (pos 0) (pos 0) 1 0 [] (negsuc 0) (pos 0) 1 1 [] (start_function M) (sets region (negsuc 0)) refl refl refl (sets_region M (pos 0) (pos 0) (negsuc 0) (frame 1 0) []))))))
   where
     among : Among (place 1 0) (before_choice 1 1)
     among f q x = let e = x.1 in (x.0, omega (arith, e), omega (arith, e))
@@ -310,12 +321,12 @@ starts M is pace is_pace n =
 -- ---- stimuli
 
 -- an incoming signal without values
-record IsSent (M : Model) (k : ℕ) (vs : List Value) : Type 0 where
+pub record IsSent (M : Model) (k : ℕ) (vs : List Value) : Type 0 where
   pub signal : Signals.Signal
   pub at : slice_get M.signals k ≡ Some signal
   pub incoming : signal.incoming ≡ true
 
-sent_by : (M : Model) (k : ℕ) (vs : List Value) (o : Option Signals.Signal) → slice_get M.signals k ≡ o → is_sent M o vs ≡ true → IsSent M k vs
+pub sent_by : (M : Model) (k : ℕ) (vs : List Value) (o : Option Signals.Signal) → slice_get M.signals k ≡ o → is_sent M o vs ≡ true → IsSent M k vs
 sent_by M k vs None e h = absurd (false≢true h)
 sent_by M k vs (Some s) e h = record { signal = s; at = e; incoming = left_of s.incoming (are_in M s.sorts vs) h }
 
@@ -334,14 +345,14 @@ handler_there M (g ∷ hs) k h plain known found = choose (is_input k g.trigger)
     choose false e later = later e
 
 -- where the choices of a signal stand
-choice_placed : (M : Model) (k st : ℕ) (d : StateDef) (h : Handler) → slice_get (states_of M) st ≡ Some d → handler_in k d.handlers ≡ Some h → ChoiceAt (signal_code M k) (choice_cases k 0 2 (states_of M)) 2 (2 + length (choices_code k (states_of M))) st h.body
+pub choice_placed : (M : Model) (k st : ℕ) (d : StateDef) (h : Handler) → slice_get (states_of M) st ≡ Some d → handler_in k d.handlers ≡ Some h → ChoiceAt (signal_code M k) (choice_cases k 0 2 (states_of M)) 2 (2 + length (choices_code k (states_of M))) st h.body
 choice_placed M k st d h at has =
     let before = instr.Branch is_stopped (signal_end M k) ∷ instr.Table (read region) (choice_cases k 0 2 (states_of M)) (signal_end M k) ∷ [] in
     subst (λ n. ChoiceAt (signal_code M k) (choice_cases k 0 2 (states_of M)) 2 (2 + length (choices_code k (states_of M))) n h.body) (none_more st)
     (handled_placed k 0 st before (instr.Back ∷ []) (states_of M) d h at has)
 
 -- behind them the function ends
-end_placed : (M : Model) (k : ℕ) → slice_get (signal_code M k) (signal_end M k) ≡ Some instr.Back
+pub end_placed : (M : Model) (k : ℕ) → slice_get (signal_code M k) (signal_end M k) ≡ Some instr.Back
 end_placed M k =
     let before = instr.Branch is_stopped (signal_end M k) ∷ instr.Table (read region) (choice_cases k 0 2 (states_of M)) (signal_end M k) ∷ choices_code k (states_of M) in
     ap (slice_get (signal_code M k)) (two_more (length (choices_code k (states_of M)))) ∙ (has_at before (instr.Back ∷ []) []).0
@@ -358,8 +369,8 @@ signal_passes M is pace is_pace k signal placed r x to leads le =
     let slots = slots_at r x in
     passes_wider (coded M pace is_pace) (Here r x f 0 []) (Here r x f 0 []) [] (Here r x f to []) (Here r x f to []) (either (place f 0) (place f 1)) (before_choice f to) (λ s now h. h) (λ s now h. h) among
     (passes_on (coded M pace is_pace) (Here r x f 0 []) [] (Here r x f 1 []) [] (Here r x f to []) (place f 0) (place f 1)
-    (goes M pace is_pace r x f 0 [] r x f 1 [] g (instr.Branch is_stopped (signal_end M k)) placed.at refl (not_stopped M r x (frame f 0) [] (signal_end M k)))
-    (goes M pace is_pace r x f 1 [] r x f to [] g (instr.Table (read region) (choice_cases k 0 2 (states_of M)) (signal_end M k)) placed.at refl
+    (goes M pace is_pace r x f 0 [] r x f 1 [] g (instr.Branch is_stopped (signal_end M k)) (serves_nothing M f 0 placed.other) placed.at refl (not_stopped M r x (frame f 0) [] (signal_end M k)))
+    (goes M pace is_pace r x f 1 [] r x f to [] g (instr.Table (read region) (choice_cases k 0 2 (states_of M)) (signal_end M k)) (serves_nothing M f 1 placed.other) placed.at refl
     (table_of_region M r x (frame f 1) [] (choice_cases k 0 2 (states_of M)) (signal_end M k) ∙ ap (λ q. quiet (Running slots (frame f q) [])) leads))
     apart)
   where
@@ -371,7 +382,7 @@ signal_passes M is pace is_pace k signal placed r x to leads le =
     apart f q x y = let a = x.1 in let b = y.1 in omega (arith, a, b)
 
 -- what a state does with the signal
-takes_by : (M : Model) → IsBasic M → (pace : Pace) (is_pace : IsPace pace) (k : ℕ) (vs : List Value) (sent : IsSent M k vs) (placed : SignalAt M k sent.signal) (st : ℕ) (d : StateDef) (x : ℤ) → slice_get (states_of M) st ≡ Some d → StateIs M d
+pub takes_by : (M : Model) → IsBasic M → (pace : Pace) (is_pace : IsPace pace) (k : ℕ) (vs : List Value) (sent : IsSent M k vs) (placed : SignalAt M k sent.signal) (st : ℕ) (d : StateDef) (x : ℤ) → slice_get (states_of M) st ≡ Some d → StateIs M d
     → (o : Option Handler) → handler_in k d.handlers ≡ o → Answered M pace is_pace (Here (pos st) x placed.function 0 []) (step M (At st Basic) (Shows.Signal k vs))
 takes_by M is pace is_pace k vs sent placed st d x at st_is None none =
     let f = placed.function in
@@ -402,7 +413,7 @@ takes_by M is pace is_pace k vs sent placed st d x at st_is None none =
           (passes_then (coded M pace is_pace) fuel (gives (At st Basic)) before [] (Left (pos st) x) (Returned (Rests M) Halts (machine_of M)) X no_places
           (passes_on (coded M pace is_pace) before [] (Here (pos st) x f last []) [] (Left (pos st) x) (before_choice f last) (place f last)
           (signal_passes M is pace is_pace k sent.signal placed (pos st) x last to (omega (arith)))
-          (returns M pace is_pace (pos st) x f last (signal_function M k sent.signal) placed.at (end_placed M k))
+          (returns M pace is_pace (pos st) x f last (signal_function M k sent.signal) (serves_nothing M f last placed.other) placed.at (end_placed M k))
           (last_apart f last))
           (ends_at_once (coded M pace is_pace) fuel (Done (At st Basic)) (Left (pos st) x) (Returned (Rests M) Halts (machine_of M)) no_places (done≢out (At st Basic)) (omega (arith)) rest)
           (λ g q u v. u) (λ g q u v. u));
@@ -423,29 +434,35 @@ takes_by M is pace is_pace k vs sent placed st d x at st_is (Some h) has =
           same_doing (coded M pace is_pace) fuel (whole M (Some h.body) (Some st)) (step M (At st Basic) (Shows.Signal k vs)) before (Returned (Rests M) Halts (machine_of M)) taken.ways (λ n s. step_takes M st d k vs n s h at st_is has facts.0) (taken.carries fuel);
     }
 
-takes_signal : (M : Model) → IsBasic M → (pace : Pace) → IsPace pace → (k : ℕ) (vs : List Value) → IsSent M k vs → (st : ℕ) (d : StateDef) (x : ℤ) (s : State) → slice_get (states_of M) st ≡ Some d → HasNoData s → (n : ℕ) → Answers (Rests M) Halts (machine_of M) pace (paced_size pace (code_of M)) ((machine_of M).begin (Some (Shows.Signal k vs)) (slots_at (pos st) x)) n (step M (At st Basic) (Shows.Signal k vs) n s)
-takes_signal M is pace is_pace k vs sent st d x s at bare n =
+-- the function of a signal is called
+pub signal_begins : (M : Model) (is : IsBasic M) (k : ℕ) (vs : List Value) (sent : IsSent M k vs) (slots : List Cells) → (machine_of M).begin (Some (Shows.Signal k vs)) slots ≡ Running slots (frame (signal_at M is.fair k sent.signal sent.at sent.incoming).function 0) []
+signal_begins M is k vs sent slots =
+    let placed = signal_at M is.fair k sent.signal sent.at sent.incoming in
+    ap (λ fields. entered (place_in (interface.signal_function M k) (flat_function_names (code_of M))) (inputs_set M (slot_names (code_of M)) fields vs slots)) (no_inputs M is.basic k sent.signal sent.at)
+    ∙ ap (λ o. entered o slots) placed.placed
+
+signal_with : (M : Model) → IsBasic M → (pace : Pace) (is_pace : IsPace pace) (P : Holds) → WhereCarried M pace is_pace P → (k : ℕ) (vs : List Value) → IsSent M k vs → (st : ℕ) (d : StateDef) (x : ℤ) (s : State) → slice_get (states_of M) st ≡ Some d → HasNoData s → P ((machine_of M).begin (Some (Shows.Signal k vs)) (slots_at (pos st) x)) (step M (At st Basic) (Shows.Signal k vs)) s
+signal_with M is pace is_pace P holds k vs sent st d x s at bare =
     let placed = signal_at M is.fair k sent.signal sent.at sent.incoming in
     let slots = slots_at (pos st) x in
     let config : Config = Running slots (frame placed.function 0) [] in
-    let begun_is : (machine_of M).begin (Some (Shows.Signal k vs)) slots ≡ config =
-    ap (λ fields. entered (place_in (interface.signal_function M k) (flat_function_names (code_of M))) (inputs_set M (slot_names (code_of M)) fields vs slots)) (no_inputs M is.basic k sent.signal sent.at)
-    ∙ ap (λ o. entered o slots) placed.placed in
-    subst (λ c. Answers (Rests M) Halts (machine_of M) pace (paced_size pace (code_of M)) c n (step M (At st Basic) (Shows.Signal k vs) n s)) (sym begun_is)
-    (answers M pace is_pace config (step M (At st Basic) (Shows.Signal k vs)) n s (Here (pos st) x placed.function 0 []) (record { is = refl; bare = bare })
+    subst (λ c. P c (step M (At st Basic) (Shows.Signal k vs)) s) (sym (signal_begins M is k vs sent slots))
+    (holds config (step M (At st Basic) (Shows.Signal k vs)) s (Here (pos st) x placed.function 0 []) (record { is = refl; bare = bare })
     (takes_by M is pace is_pace k vs sent placed st d x at (state_is M is.formed is.basic st d at) (handler_in k d.handlers) refl))
 
--- no timer expires, since there is none
-takes : (M : Model) → IsBasic M → (pace : Pace) → IsPace pace → (a : Active) (s : State) (slots : List Cells) → Rests M a s slots → (x : Stimulus) → IsTrue (is_stimulus M x) → (n : ℕ) → Answers (Rests M) Halts (machine_of M) pace (paced_size pace (code_of M)) ((machine_of M).begin (Some x) slots) n (step M a x n s)
-takes M is pace is_pace a s slots rests (Shows.Signal k vs) sent n =
+pub no_timer : (M : Model) → IsBasic M → (t : ℕ) → IsTrue (nat_lt t (length M.timers)) → ⊥
+no_timer M is t sent = no_number (ltb-true t (length M.timers) sent)
+  where
+    no_number : t < length M.timers → ⊥
+    no_number lt = let e = ap length is.basic.no_timers in omega (arith, lt, e)
+
+-- the code carries out each stimulus; no timer expires, since there is none
+pub takes_with : (M : Model) → IsBasic M → (pace : Pace) (is_pace : IsPace pace) (P : Holds) → WhereCarried M pace is_pace P → (a : Active) (s : State) (slots : List Cells) → Rests M a s slots → (x : Stimulus) → IsTrue (is_stimulus M x) → P ((machine_of M).begin (Some x) slots) (step M a x) s
+takes_with M is pace is_pace P holds a s slots rests (Shows.Signal k vs) sent =
     rw rests.is
     (rw rests.holds
-    (takes_signal M is pace is_pace k vs (sent_by M k vs (slice_get M.signals k) refl sent) rests.state rests.def rests.x s rests.there (record { variables = rests.variables; timers = rests.timers }) n))
-takes M is pace is_pace a s slots rests (Shows.Expiry t) sent n =
-    absurd (no_timer (ltb-true t (length M.timers) sent))
-  where
-    no_timer : t < length M.timers → ⊥
-    no_timer lt = let e = ap length is.basic.no_timers in omega (arith, lt, e)
+    (signal_with M is pace is_pace P holds k vs (sent_by M k vs (slice_get M.signals k) refl sent) rests.state rests.def rests.x s rests.there (record { variables = rests.variables; timers = rests.timers })))
+takes_with M is pace is_pace P holds a s slots rests (Shows.Expiry t) sent = absurd (no_timer M is t sent)
 
 -- ---- the whole
 
@@ -457,13 +474,17 @@ rest_is_shown M is a s slots rests =
     ∙ ap (λ vs. Shows.Rest (paths_of M.root a) vs []) (sym rests.variables)
     ∙ ap (λ ts. Shows.Rest (paths_of M.root a) s.store.variables ts) (sym rests.timers)
 
+abbrev AnswersWith : Model → Pace → ℕ → Holds
+AnswersWith M pace n config d s = Answers (Rests M) Halts (machine_of M) pace (paced_size pace (code_of M)) config n (d n s)
+
 pub simulates : (M : Model) → IsBasic M → (pace : Pace) → IsPace pace → Simulates M (machine_of M) pace (paced_size pace (code_of M)) (first_slots M.types (code_of M)) (Rests M) Halts
 simulates M is pace is_pace = record {
   is_pace = is_pace;
   stays = record { over = λ slots. refl; broken = λ trouble. refl };
   rest_is_shown = rest_is_shown M is;
   halt_is_shown = λ s slots halts. absurd halts;
-  starts = starts M is pace is_pace;
-  takes = takes M is pace is_pace;
+  starts = λ n. starts_with M is pace is_pace (AnswersWith M pace n) (λ config d s before at answered. answers M pace is_pace config d n s before at answered);
+  takes = λ a s slots rests x sent n.
+      takes_with M is pace is_pace (AnswersWith M pace n) (λ config d s before at answered. answers M pace is_pace config d n s before at answered) a s slots rests x sent;
   halted = λ s slots halts. absurd halts;
 }

@@ -1,7 +1,7 @@
 -- What it is to be the code of a model: it can be printed, it is never stuck, and at every pace it shows what the meaning of
 -- the model shows (Z.101 section 11, as far as og_model says it). All units of work of the start, or of one stimulus,
 -- together take at most so many statements: for each unit as many as there are in all functions, their ends counted, and one
--- more. Nothing is said of how many a single unit takes.
+-- more. How its runs are cut into single units, specs/Units says.
 use Rattle.std.specs.Prelude.{ℕ, ◌+◌, ◌*◌}
 use Rattle.og_model.specs.declared.Model.{Model}
 use Rattle.og_model.specs.Run.{sdl}

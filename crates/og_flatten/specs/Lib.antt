@@ -1,2 +1,4 @@
 pub mod Code
 pub mod FlatCode
+pub mod Units
+pub mod Examples

@@ -10,10 +10,12 @@ ghost use Rattle.og_names.specs.Table.{IsTable};
 ghost use Rattle.og_model.specs.Forms.{UsesBasicStatesOnly};
 ghost use Rattle.og_model.specs.WellFormed.{IsWellFormed};
 ghost use Rattle.og_flatten.specs.Code.{IsCodeOf};
+ghost use Rattle.og_flatten.specs.Units.{HasOwnUnits};
 ghost use Rattle.og_flatten.specs.FlatCode.{slots, event_word, end_place, function_if_incoming, functions_of, code_of};
 
 mod chooser;
 mod code;
+pub mod examples;
 mod labels;
 mod transition;
 
@@ -37,11 +39,13 @@ const SLOTS: [&[u8]; 7] = [
     b"chosen",
 ];
 
-/// The flat code of a model of basic states.
+/// The flat code of a model of basic states. Its runs are cut into the units of the model: each unit has a place of its own,
+/// no place is carried out twice between two units, and what belongs to a step serves nothing else.
 pub fn flatten(alloc: Global, model: &Model) -> Result<Ir, NoMemory>
     requires formed { IsWellFormed model.now }
     requires basic { UsesBasicStatesOnly model.now }
-    ensures { IfOk result (IsCodeOf model.now) }
+    ensures code { IfOk result (IsCodeOf model.now) }
+    ensures units { IfOk result (HasOwnUnits model.now) }
 {
     make_code(alloc, model)
 }

@@ -1,5 +1,5 @@
 -- A call: the body of a procedure is carried out as part of its caller's transition, with variables of its own.
-use Rattle.std.proofs.Common.{◌≡◌, ℕ, List, Option, Some, Ok, Err, inl, inr, sym, subst, arith}
+use Rattle.std.proofs.Common.{◌≡◌, ℕ, zero, suc, List, Option, Some, None, Ok, Err, inl, inr, sym, subst, arith}
 use Rattle.og_base.specs.declared.Place.{Place}
 use Rattle.og_types.specs.declared.Value.{Value}
 use Rattle.og_model.specs.declared.FaultKind.{FaultKind}
@@ -9,11 +9,11 @@ use Rattle.og_model.specs.declared.VarId.{VarId}
 use Rattle.og_model.specs.declared.Action.TheOpen.{Call}
 use Rattle.og_model.specs.Expressions.{Passed}
 use Rattle.og_model.specs.Units.{State, Outcome, Done, Fault, Out, gives, then_do, or_fault}
-use Rattle.og_model.specs.Actions.{Setting, Remainder, Going, Ended, Next, Dash, Return, going_at, start_of, returned, setting_of, called, called_with, formals_of, passed_to, receiving, act_on}
+use Rattle.og_model.specs.Actions.{Setting, Remainder, Going, Ended, Next, Dash, Return, going_at, start_of, returned, setting_of, called, called_with, formals_of, passed_to, receiving, act_on, run}
 use Rattle.og_ir.specs.Steps.{Config}
 use Rattle.og_follow.specs.Carrying.{Code, Standing, in_state, Exits, Among, Ways, becoming, Carried, CarriesOut, no_places, one_then, CanFollow, Narrower}
-use Rattle.og_follow.specs.Trials.{in_call, behind_call, CarriesCall}
-use Rattle.og_follow.proofs.Carrying.{ends_at_once, never_begins, one_then_other, or_faults, by_state_of, becomes, as_wider}
+use Rattle.og_follow.specs.Trials.{in_call, behind_call, CarriesCall, CallsItself}
+use Rattle.og_follow.proofs.Carrying.{ends_at_once, runs_out_at_once, never_begins, one_then_other, or_faults, by_state_of, becomes, as_wider}
 
 pub same_way : (P : Ways) → Narrower (one_then P no_places) P
 same_way P = record { head = head; near = near; tail = tail; least = omega (arith) }
@@ -69,6 +69,30 @@ module _ (code : Code) (fuel : ℕ) (go : Going) (p : Proc) (ps : List Passed) (
         subst (λ j. Carried code first from n (then_do (becoming (in_call p ps) (going_at go (setting_of p j ps) (start_of p.bodies))) (returned j) n s) after P) (sym (is.depth s from.now at))
         (whole.carries first from n s le follows at fits);
   }
+
+-- ---- a procedure that calls itself
+
+module _ (code : Code) (M : Model) (p : Proc) (calling inside : ℕ → List Passed → Standing) (mid : ℕ → List Passed → Exits Ended) (after : ℕ → List Passed → Exits (Option Value)) (P : Ways) (is : CallsItself code M p calling inside mid after P) where
+  -- one call, where its body is carried out
+  one_call : (fuel : ℕ) (go : Going) (k : ℕ) (ps : List Passed) → CarriesOut code fuel (going_at go (setting_of p k ps) (start_of p.bodies)) (inside k ps) (mid k ps) P → CarriesOut code fuel (called_with go (Some p) ps) (calling k ps) (after k ps) P
+  one_call fuel go k ps body = call_carried code fuel go p ps k (calling k ps) (inside k ps) (mid k ps) (after k ps) P (record {
+    depth = is.depth k ps;
+    begins = is.begins k ps;
+    body = body;
+    returns = is.returns k ps;
+    no_state = is.no_state k ps;
+    no_dash = is.no_dash k ps;
+    ends = is.ends k ps;
+  })
+
+  -- without units nothing of the body is done
+  no_body : (k : ℕ) (ps : List Passed) (o : Option Remainder) → CarriesOut code 0 (going_at (run 0 M) (setting_of p k ps) o) (inside k ps) (mid k ps) P
+  no_body k ps None = runs_out_at_once code (inside k ps) (mid k ps) P (is.runs k ps)
+  no_body k ps (Some rest) = runs_out_at_once code (inside k ps) (mid k ps) P (is.runs k ps)
+
+  pub calls_itself : (fuel k : ℕ) (ps : List Passed) → CarriesOut code fuel (called_with (run fuel M) (Some p) ps) (calling k ps) (after k ps) P
+  calls_itself zero k ps = one_call 0 (run 0 M) k ps (no_body k ps (start_of p.bodies))
+  calls_itself (suc fuel) k ps = one_call (suc fuel) (run (suc fuel) M) k ps (is.body fuel k ps (calls_itself fuel))
 
 -- the action: its arguments, the call, and what follows it
 pub call_action : (code : Code) (fuel : ℕ) (go : Going) (M : Model) (b : Setting) (place : Place) (rest : Remainder) (p : ℕ) (args : _) (x : Option VarId) (before : Standing) (after : Exits Ended) (P : Ways)

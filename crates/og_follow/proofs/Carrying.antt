@@ -10,7 +10,7 @@ use Rattle.og_model.specs.Units.{State, Outcome, Done, Stop, Fault, Out, Ran, Do
 use Rattle.og_ir.specs.Steps.{Config}
 use Rattle.og_follow.specs.Passing.{Passed, none_passed, with_place}
 use Rattle.og_follow.specs.Tracks.{Track, since}
-use Rattle.og_follow.specs.Carrying.{Code, Standing, IsRunning, in_state, Exits, EndsAlike, only, Places, nowhere, either, where_so, Apart, Among, Free, Within, Ways, showing_each, by_state, becoming, by_units, Point, Follows, Gone, Passes, Moves, Begun, Begins, Fits, PassedBy, AtLeast, Arrives, Carried, CarriesOut, behind, behind_unit, before_places, one_then, CanFollow, Narrower}
+use Rattle.og_follow.specs.Carrying.{Code, Standing, IsRunning, in_state, Exits, EndsAlike, only, Places, nowhere, either, Each, where_so, Apart, Among, Free, Within, Ways, showing_each, by_state, becoming, by_units, Point, Follows, Gone, Passes, Moves, Begun, Begins, Fits, PassedBy, AtLeast, Arrives, Carried, CarriesOut, behind, behind_unit, before_places, one_then, CanFollow, Narrower}
 use Rattle.og_follow.proofs.Passing.{elsewhere, not_there}
 use Rattle.og_follow.proofs.Tracks.{goes_on, begins_unit}
 
@@ -94,13 +94,13 @@ at_least_both one two taken more Out le le' = tt
 -- ---- straight code
 
 -- one step
-pub step_passes : (code : Code) (before : Standing) (shown : List Event) (after : Standing) (X : Places) → ((s : State) (now : Config) → before s now → Moves code shown (after s) X now) → Passes code before shown after X
-step_passes code before shown after X steps = record { passes = passes }
+pub step_passes : (code : Code) (before : Standing) (shown : List Event) (after : Standing) (X : Places) → Each code.unit_at false X → ((s : State) (now : Config) → before s now → Moves code shown (after s) X now) → Passes code before shown after X
+step_passes code before shown after X none steps = record { passes = passes }
   where
     passes : (first : Config) (from : Point) (s : State) → Follows code first from → before s from.now → Free from.seen X → Gone code first from shown after X s
     passes first from s follows at free =
         let st = steps s from.now at in
-        let here = subst (λ c. Track code.step code.pace code.ir first from.units from.statements from.events from.seen c) st.is follows in
+        let here = subst (λ c. Track code.step code.unit_at code.pace code.ir first from.units from.statements from.events from.seen c) st.is follows in
         record {
           to = record {
             units = from.units;
@@ -109,7 +109,7 @@ step_passes code before shown after X steps = record { passes = passes }
             seen = with_place from.seen st.frame.function st.frame.place;
             now = st.next;
           };
-          follows = goes_on code.step code.pace code.ir code.is_pace first from.units from.statements from.events shown from.seen st.slots st.frame st.callers st.next here st.stands (free st.frame.function st.frame.place st.among) (ap code.step (sym st.is) ∙ st.does);
+          follows = goes_on code.step code.unit_at code.pace code.ir code.is_pace first from.units from.statements from.events shown from.seen st.slots st.frame st.callers st.next here st.stands (none st.frame st.among) (free st.frame.function st.frame.place st.among) (ap code.step (sym st.is) ∙ st.does);
           units = refl;
           events = refl;
           there = st.there;
@@ -134,8 +134,8 @@ passes_on code before one mid two after X Y first_passes next_passes apart = rec
         }
 
 -- a unit begins with one step
-pub step_begins : (code : Code) (before : Standing) (shown : List Event) (after : Standing) (X : Places) → ((s : State) (now : Config) → before s now → Moves code shown (after s) X now) → Begins code before shown after X
-step_begins code before shown after X steps = record { runs = runs; begins = begins }
+pub step_begins : (code : Code) (before : Standing) (shown : List Event) (after : Standing) (X : Places) → Each code.unit_at true X → ((s : State) (now : Config) → before s now → Moves code shown (after s) X now) → Begins code before shown after X
+step_begins code before shown after X each steps = record { runs = runs; begins = begins }
   where
     runs : (s : State) (now : Config) → before s now → IsRunning now
     runs s now at = let st = steps s now at in record { slots = st.slots; frame = st.frame; callers = st.callers; is = st.is }
@@ -143,7 +143,7 @@ step_begins code before shown after X steps = record { runs = runs; begins = beg
     begins : (first : Config) (from : Point) (s : State) → Follows code first from → before s from.now → (from.units ≡ 0 → Free from.seen X) → Begun code first from shown after X s
     begins first from s follows at free =
         let st = steps s from.now at in
-        let here = subst (λ c. Track code.step code.pace code.ir first from.units from.statements from.events from.seen c) st.is follows in
+        let here = subst (λ c. Track code.step code.unit_at code.pace code.ir first from.units from.statements from.events from.seen c) st.is follows in
         record {
           to = record {
             units = suc from.units;
@@ -152,7 +152,7 @@ step_begins code before shown after X steps = record { runs = runs; begins = beg
             seen = since from.units from.seen st.frame.function st.frame.place;
             now = st.next;
           };
-          follows = begins_unit code.step code.pace code.ir code.is_pace first from.units from.statements from.events shown from.seen st.slots st.frame st.callers st.next here st.stands (λ none. free none st.frame.function st.frame.place st.among) (ap code.step (sym st.is) ∙ st.does);
+          follows = begins_unit code.step code.unit_at code.pace code.ir code.is_pace first from.units from.statements from.events shown from.seen st.slots st.frame st.callers st.next here st.stands (each st.frame st.among) (λ none. free none st.frame.function st.frame.place st.among) (ap code.step (sym st.is) ∙ st.does);
           units = refl;
           events = refl;
           there = st.there;

@@ -1,6 +1,7 @@
 pub mod PacedSteps
 pub mod Passing
 pub mod Agreeing
+pub mod Trails
 pub mod Tracks
 pub mod Carrying
 pub mod Answering

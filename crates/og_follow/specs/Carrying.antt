@@ -18,9 +18,11 @@ use Rattle.og_follow.specs.Answers.{AtRest, AtHalt}
 use Rattle.og_follow.specs.Passing.{Passed, none_passed}
 use Rattle.og_follow.specs.Tracks.{Track, Stands}
 
--- the code that is followed: what one step does, how many statements each takes, and the functions
+-- the code that is followed: what one step does, at which places a unit begins, how many statements each place takes,
+-- and the functions
 pub record Code : Type 0 where
   pub step : Config → Steps.Ran Event
+  pub unit_at : Frame → Bool
   pub pace : Pace
   pub is_pace : IsPace pace
   pub ir : Ir
@@ -75,6 +77,10 @@ place f p g q = (g ≡ f) × (q ≡ p)
 
 abbrev pub either : Places → Places → Places
 either X Y f p = X f p ⊎ Y f p
+
+-- at each of these places a unit begins, or at none
+abbrev pub Each : (Frame → Bool) → Bool → Places → Type 0
+Each unit_at begins X = (frame : Frame) → X frame.function frame.place → unit_at frame ≡ begins
 
 -- these places, if something holds
 abbrev pub where_so : Type 0 → Places → Places
@@ -132,7 +138,7 @@ pub record Point : Type 0 where
 
 -- from its first configuration on the code has come to this point
 abbrev pub Follows : Code → Config → Point → Type 0
-Follows code first x = Track code.step code.pace code.ir first x.units x.statements x.events x.seen x.now
+Follows code first x = Track code.step code.unit_at code.pace code.ir first x.units x.statements x.events x.seen x.now
 
 -- ---- code without a unit
 
@@ -304,9 +310,9 @@ Always code d before after P = (fuel : ℕ) → CarriesOut code fuel d before af
 
 -- ---- the start, or a stimulus
 
--- the code of a machine at a pace
-abbrev pub code_at : Machine → (pace : Pace) → IsPace pace → Ir → Code
-code_at machine pace is_pace ir = record { step = machine.step; pace = pace; is_pace = is_pace; ir = ir }
+-- the code of a machine at a pace, with the places where units begin
+abbrev pub code_at : Machine → (Frame → Bool) → (pace : Pace) → IsPace pace → Ir → Code
+code_at machine unit_at pace is_pace ir = record { step = machine.step; unit_at = unit_at; pace = pace; is_pace = is_pace; ir = ir }
 
 -- the code has returned to outside, with slots of the process at rest, stopped or after a fault
 abbrev pub Returned : AtRest → AtHalt → Machine → Exits Active

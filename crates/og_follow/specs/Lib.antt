@@ -1,4 +1,5 @@
 pub mod Passing
+pub mod Cuts
 pub mod Tracks
 pub mod Answers
 pub mod Carrying

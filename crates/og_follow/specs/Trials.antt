@@ -1,6 +1,6 @@
 -- What code has to do for the forms of the meaning that are hardest to follow: a call, the entering of partitions, and continuous
 -- signals that fire again. No code is made for these forms; the laws try the definition of what it is to carry out a doing.
-use Rattle.std.specs.Prelude.{◌≡◌, ℕ, ◌≤◌, List, [], ◌∷◌, length, Option, None, ⊤, Bool, true, false, Result, Ok, Err}
+use Rattle.std.specs.Prelude.{◌≡◌, ℕ, suc, ◌≤◌, List, [], ◌∷◌, length, Option, Some, None, ⊤, Bool, true, false, Result, Ok, Err}
 use Rattle.og_names.specs.declared.NameId.{NameId}
 use Rattle.og_types.specs.declared.Value.{Value}
 use Rattle.og_model.specs.declared.FaultKind.{FaultKind}
@@ -9,12 +9,12 @@ use Rattle.og_model.specs.declared.Partition.{Partition, out-Partition}
 use Rattle.og_model.specs.declared.Proc.{Proc}
 use Rattle.og_model.specs.Expressions.{Passed, eval, no_frame, truth_of}
 use Rattle.og_model.specs.Units.{State, Done, Fault, spend}
-use Rattle.og_model.specs.Actions.{Going, Ended, Next, Dash, Return, going_at, own_values, with_call, calls_below, start_of, setting_of}
+use Rattle.og_model.specs.Actions.{Going, Ended, Next, Dash, Return, going_at, own_values, with_call, calls_below, start_of, setting_of, called_with, run}
 use Rattle.og_model.specs.Configuration.{Active, Parts, add_part}
 use Rattle.og_model.specs.Moving.{Arrival, Entering, hook, started, in_partition, enter_parts, fire}
 use Rattle.og_model.specs.Settling.{Continuous, continuous_of, ordered}
 use Rattle.og_ir.specs.Steps.{Config}
-use Rattle.og_follow.specs.Carrying.{Code, Standing, in_state, Exits, Places, nowhere, either, Apart, Ways, EndsAlike, Passes, Begins, CarriesOut, one_then, CanFollow}
+use Rattle.og_follow.specs.Carrying.{Code, Standing, IsRunning, in_state, Exits, Places, nowhere, either, Apart, Ways, EndsAlike, Passes, Begins, CarriesOut, one_then, CanFollow}
 
 -- ---- a call
 
@@ -35,6 +35,20 @@ pub record CarriesCall (code : Code) (fuel : ℕ) (go : Going) (p : Proc) (ps : 
   pub no_state : (j : ℕ) (entry : Option NameId) (s : State) (now : Config) → mid (Done (Next j entry)) s now → ⊥
   pub no_dash : (s : State) (now : Config) → mid (Done Dash) s now → ⊥
   pub ends : EndsAlike mid after
+
+-- Code carries out the calls of a procedure that may call itself: it carries out the body with one unit more wherever
+-- it carries out every call of the procedure, at any depth of calls, with the units before. The places are the same at
+-- each depth.
+pub record CallsItself (code : Code) (M : Model) (p : Proc) (calling inside : ℕ → List Passed → Standing) (mid : ℕ → List Passed → Exits Ended) (after : ℕ → List Passed → Exits (Option Value)) (P : Ways) : Type 0 where
+  pub depth : (k : ℕ) (ps : List Passed) (s : State) (now : Config) → calling k ps s now → length s.store.calls ≡ k
+  pub begins : (k : ℕ) (ps : List Passed) (s : State) (now : Config) → calling k ps s now → inside k ps (in_call p ps s) now
+  pub runs : (k : ℕ) (ps : List Passed) (s : State) (now : Config) → inside k ps s now → IsRunning now
+  pub body : (fuel k : ℕ) (ps : List Passed) → ((j : ℕ) (qs : List Passed) → CarriesOut code fuel (called_with (run fuel M) (Some p) qs) (calling j qs) (after j qs) P)
+      → CarriesOut code (suc fuel) (going_at (run (suc fuel) M) (setting_of p k ps) (start_of p.bodies)) (inside k ps) (mid k ps) P
+  pub returns : (k : ℕ) (ps : List Passed) (exit : Option NameId) (v : Option Value) (s : State) (now : Config) → mid k ps (Done (Return exit v)) s now → after k ps (Done v) (behind_call k s) now
+  pub no_state : (k : ℕ) (ps : List Passed) (j : ℕ) (entry : Option NameId) (s : State) (now : Config) → mid k ps (Done (Next j entry)) s now → ⊥
+  pub no_dash : (k : ℕ) (ps : List Passed) (s : State) (now : Config) → mid k ps (Done Dash) s now → ⊥
+  pub ends : (k : ℕ) (ps : List Passed) → EndsAlike (mid k ps) (after k ps)
 
 -- ---- partitions
 

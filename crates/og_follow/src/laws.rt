@@ -1,6 +1,6 @@
 //! What code has to do for each way in which the meaning puts doings together, and for the start and each stimulus.
 
-ghost use Rattle.std.specs.Prelude.{◌≡◌, ℕ, suc, ◌+◌, ◌*◌, ◌≤◌, List, [], ◌∷◌, ◌++◌, Bool, IsTrue, Result, Ok, Err};
+ghost use Rattle.std.specs.Prelude.{◌≡◌, ℕ, suc, ◌+◌, ◌*◌, ◌≤◌, List, [], ◌∷◌, ◌++◌, Bool, true, false, IsTrue, Result, Ok, Err};
 ghost use Rattle.og_base.specs.declared.Place.{Place};
 ghost use Rattle.og_model.specs.declared.FaultKind.{FaultKind};
 ghost use Rattle.og_model.specs.declared.Model.{Model as Process};
@@ -11,20 +11,23 @@ ghost use Rattle.og_model.specs.Shown.{Event};
 ghost use Rattle.og_model.specs.Units.{State, Outcome, Done, Fault, Out, Doing, ends, runs_out, showing, then_do, spend, or_fault, storing, timing};
 ghost use Rattle.og_ir.specs.declared.Ir.{Ir};
 ghost use Rattle.og_ir.specs.Cells.{Cells};
-ghost use Rattle.og_ir.specs.Steps.{Config};
+ghost use Rattle.og_ir.specs.Steps.{Frame, Config};
 ghost use Rattle.og_csubset.specs.Agreement.{AreStimuli, SameRuns};
 ghost use Rattle.og_csubset.specs.Paced.{Pace, IsPace, paced_runs, paced_size};
 ghost use Rattle.og_csubset.specs.Run.{Machine, all_stimuli};
 ghost use Rattle.og_follow.specs.Answers.{Answers, Simulates};
+ghost use Rattle.og_follow.specs.Cuts.{IsCut};
 ghost use Rattle.og_follow.specs.Passing.{Passed};
-ghost use Rattle.og_follow.specs.Carrying.{Code, IsRunning, in_state, EndsAlike, either, Apart, AtLeast, by_state, by_units, Moves, Passes, Begins, CarriesOut, no_places, behind, behind_unit, before_places, one_then, CanFollow, Narrower, Test, told, Leads, led, listed, Routes, ways, Always, code_at, Returned};
+ghost use Rattle.og_follow.specs.Carrying.{Code, IsRunning, in_state, EndsAlike, either, Each, Apart, AtLeast, by_state, by_units, Moves, Passes, Begins, CarriesOut, no_places, behind, behind_unit, before_places, one_then, CanFollow, Narrower, Test, told, Leads, led, listed, Routes, ways, Always, code_at, Returned};
 
 /// A step is straight code, or begins a unit; straight code goes on with straight code, and so does a unit.
 pub fn steps_go_on()
     ensures passes { (code : Code) (before : Test) (shown : List Event) (after : Test) (X : Passed)
+        → Each code.unit_at false (listed X)
         → ((s : State) (now : Config) → told before s now → Moves code shown (told after s) (listed X) now)
         → Passes code (told before) shown (told after) (listed X) }
     ensures begins { (code : Code) (before : Test) (shown : List Event) (after : Test) (X : Passed)
+        → Each code.unit_at true (listed X)
         → ((s : State) (now : Config) → told before s now → Moves code shown (told after s) (listed X) now)
         → Begins code (told before) shown (told after) (listed X) }
     ensures passes_on { (code : Code) (before : Test) (one : List Event) (mid : Test) (two : List Event) (after : Test) (X Y : Passed)
@@ -125,15 +128,22 @@ pub fn more_is_carried_out<A>()
         → Always code (by_units d) (told before) (led after) (ways P) }
 {}
 
-/// Where code carries out the start, or a stimulus, from its call to its return, it answers it: with the events and the end of
-/// the meaning, and with at most so many statements for the units as the bound allows.
+/// Where code carries out the start, or a stimulus, from its call to its return, it answers it: with the events and the
+/// end of the meaning, and with at most so many statements for the units as the bound allows. Its run is cut into units
+/// as the meaning is.
 pub fn what_is_carried_out_is_answered()
-    ensures { (rests : Active → State → List Cells → Bool) (halts : State → List Cells → Bool)
-        (machine : Machine) (pace : Pace) (is_pace : IsPace pace) (ir : Ir)
+    ensures answered { (rests : Active → State → List Cells → Bool) (halts : State → List Cells → Bool)
+        (machine : Machine) (unit_at : Frame → Bool) (pace : Pace) (is_pace : IsPace pace) (ir : Ir)
         (config : Config) (d : Doing Active) (n : ℕ) (s : State) (before : Test) (P : Routes) → told before s config
-        → CarriesOut (code_at machine pace is_pace ir) n d (told before)
+        → CarriesOut (code_at machine unit_at pace is_pace ir) n d (told before)
         (Returned (λ a s slots. IsTrue (rests a s slots)) (λ s slots. IsTrue (halts s slots)) machine) (ways P)
         → Answers (λ a s slots. IsTrue (rests a s slots)) (λ s slots. IsTrue (halts s slots)) machine pace (paced_size pace ir) config n (d n s) }
+    ensures cut { (rests : Active → State → List Cells → Bool) (halts : State → List Cells → Bool)
+        (machine : Machine) (unit_at : Frame → Bool) (pace : Pace) (is_pace : IsPace pace) (ir : Ir)
+        (config : Config) (d : Doing Active) (n : ℕ) (s : State) (before : Test) (P : Routes) → told before s config
+        → CarriesOut (code_at machine unit_at pace is_pace ir) n d (told before)
+        (Returned (λ a s slots. IsTrue (rests a s slots)) (λ s slots. IsTrue (halts s slots)) machine) (ways P)
+        → IsCut machine.step unit_at config n (d n s) }
 {}
 
 /// Where code answers the start and each stimulus as the meaning of a model does, its runs over lists of stimuli agree with

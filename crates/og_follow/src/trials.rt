@@ -13,22 +13,27 @@ ghost use Rattle.og_model.specs.declared.Action.TheOpen.{Call};
 ghost use Rattle.og_types.specs.declared.Value.{Value};
 ghost use Rattle.og_model.specs.Expressions as values;
 ghost use Rattle.og_model.specs.Units.{State, Done, Fault, then_do};
-ghost use Rattle.og_model.specs.Actions.{Setting, Remainder, Going, Ended, called, called_with, formals_of, passed_to, receiving, act_on};
+ghost use Rattle.og_model.specs.Actions.{Setting, Remainder, Going, Ended, called, called_with, formals_of, passed_to, receiving, act_on, run};
 ghost use Rattle.og_model.specs.Configuration.{Active, Parts};
 ghost use Rattle.og_model.specs.Moving.{Arrival, Entering, enter_parts};
 ghost use Rattle.og_model.specs.Settling.{Continuous, settle};
 ghost use Rattle.og_ir.specs.Steps.{Config};
 ghost use Rattle.og_follow.specs.Passing.{Passed};
 ghost use Rattle.og_follow.specs.Carrying.{Code, in_state, CarriesOut, CanFollow, behind, one_then, Test, told, Leads, led, listed, Routes, ways, Always};
-ghost use Rattle.og_follow.specs.Trials.{CarriesCall, EntersOne, EntersPartitions, FailsInLast, testing, Settles};
+ghost use Rattle.og_follow.specs.Trials.{CarriesCall, CallsItself, EntersOne, EntersPartitions, FailsInLast, testing, Settles};
 
 /// The body of a procedure is carried out with variables of its own, up to its return; the action evaluates its arguments
-/// first, and a fault of them has its place.
+/// first, and a fault of them has its place. A procedure may call itself, as deep as there are units.
 pub fn calls_are_followed()
     ensures body { (code : Code) (fuel : ℕ) (go : Going) (p : Proc) (ps : List values.Passed) (k : ℕ) (before inside : Test)
         (mid : Leads Ended) (after : Leads (Option Value)) (P : Routes)
         → CarriesCall code fuel go p ps k (told before) (told inside) (led mid) (led after) (ways P)
         → CarriesOut code fuel (called_with go (Some p) ps) (told before) (led after) (ways P) }
+    ensures recursive { (code : Code) (M : Process) (p : Proc) (calling inside : ℕ → List values.Passed → Test)
+        (mid : ℕ → List values.Passed → Leads Ended) (after : ℕ → List values.Passed → Leads (Option Value)) (P : Routes)
+        → CallsItself code M p (λ k ps. told (calling k ps)) (λ k ps. told (inside k ps)) (λ k ps. led (mid k ps)) (λ k ps. led (after k ps)) (ways P)
+        → (fuel k : ℕ) (ps : List values.Passed)
+        → CarriesOut code fuel (called_with (run fuel M) (Some p) ps) (told (calling k ps)) (led (after k ps)) (ways P) }
     ensures action { (code : Code) (fuel : ℕ) (go : Going) (M : Process) (b : Setting) (place : Place) (rest : Remainder) (p : ℕ)
         (args : List Arg) (x : Option VarId) (before : Test) (after : Leads Ended) (P : Routes)
         → ((s : State) (ps : List values.Passed) → passed_to M b s.store (formals_of M p) args ≡ Ok ps

@@ -16,6 +16,7 @@ use Rattle.og_model.specs.RegionTypes.{Region}
 use Rattle.og_model.specs.Regions.{Insides, followed_by, leaf_under, region_under, insides_under, regions_of_partitions, kind_insides, state_insides, states_insides, insides_of, regions}
 use Rattle.og_model.proofs.RegionLayers.{insides_is}
 use Rattle.og_layout.specs.Layout.{Number, Leaf, NoLeaf, AnyLeaf, Numbers, behind_leaves, all_of, among, numbers_of, numbers_inside, numbers_of_parts, region_numbers, marked, marked_inside, marked_parts, told_path, told_by, told_paths, IsActive, IsInside, AreParts}
+use Rattle.og_layout.specs.Named.{IsNumberOf, AreNumbersOf}
 use Rattle.og_names.proofs.Truths.{same_value as some_is}
 
 -- the path of a leaf of the region that is looked at
@@ -30,6 +31,7 @@ record Tells (x : Insides) (y : Numbers) (paths : List (List NameId)) : Type 0 w
   pub at : slice_get x.leaves place ≡ Some leaf
   pub all : own_path leaf ++ told_paths x.regions y.regions ≡ paths
   pub equal : length x.regions ≡ length y.regions
+  pub known : AreNumbersOf x.regions y.regions
 
 -- ---- lists of regions
 
@@ -74,6 +76,27 @@ get_later (x ∷ xs) ys k = ap (slice_get (x ∷ (xs ++ ys))) (one_before (lengt
     one_before : (n k : ℕ) → suc n + k ≡ suc (n + k)
     one_before n k = omega (arith)
 
+known_both : (rs qs : List Region) (ns ms : List Number) → AreNumbersOf rs ns → AreNumbersOf qs ms → AreNumbersOf (rs ++ qs) (ns ++ ms)
+known_both [] qs [] ms one two = two
+known_both [] qs (n ∷ ns) ms one two = absurd one
+known_both (r ∷ rs) qs [] ms one two = absurd one
+known_both (r ∷ rs) qs (n ∷ ns) ms one two = (one.0, known_both rs qs ns ms one.1 two)
+
+known_none : (rs : List Region) → AreNumbersOf rs (map (λ (r : Region). NoLeaf) rs)
+known_none [] = tt
+known_none (r ∷ rs) = (tt, known_none rs)
+
+known_by_leaves : (r q : Region) (n : Number) → r.leaves ≡ q.leaves → IsNumberOf r n → IsNumberOf q n
+known_by_leaves r q (Leaf n) same is = (is.0, ap (λ leaves. slice_get leaves n) (sym same) ∙ is.1)
+known_by_leaves r q NoLeaf same is = tt
+known_by_leaves r q AnyLeaf same is = is
+
+known_under : (name : NameId) (rs : List Region) (ns : List Number) → AreNumbersOf rs ns → AreNumbersOf (map (region_under name) rs) ns
+known_under name [] [] known = tt
+known_under name [] (n ∷ ns) known = absurd known
+known_under name (r ∷ rs) [] known = absurd known
+known_under name (r ∷ rs) (n ∷ ns) known = (known_by_leaves r (region_under name r) n refl known.0, known_under name rs ns known.1)
+
 -- ---- one level further out
 
 own_under : (name : NameId) (leaf : Leaves.Leaf) → own_path (leaf_under name leaf) ≡ under name (own_path leaf)
@@ -115,6 +138,7 @@ tells_under name x y paths t = record {
       ∙ sym (map-append (λ path. name ∷ path) (own_path t.leaf) (told_paths x.regions y.regions))
       ∙ ap (under name) t.all;
   equal = length_mapped (region_under name) x.regions ∙ t.equal;
+  known = known_under name x.regions y.regions t.known;
 }
 
 -- ---- among the states of a scope
@@ -130,6 +154,7 @@ tells_first x z y paths t = record {
       ∙ append-nil (told_paths x.regions y.regions))
       ∙ t.all;
   equal = length_both x.regions z.regions y.regions (all_of NoLeaf z) t.equal (none_length NoLeaf z.regions);
+  known = known_both x.regions z.regions y.regions (all_of NoLeaf z) t.known (known_none z.regions);
 }
 
 tells_later : (z x : Insides) (y : Numbers) (paths : List (List NameId)) → Tells x y paths → Tells (followed_by z x) (record { leaf = behind_leaves (length z.leaves) y.leaf; regions = all_of NoLeaf z ++ y.regions }) paths
@@ -142,6 +167,7 @@ tells_later z x y paths t = record {
       ∙ ap (λ ps. ps ++ told_paths x.regions y.regions) (none_told z.regions))
       ∙ t.all;
   equal = length_both z.regions x.regions (all_of NoLeaf z) y.regions (none_length NoLeaf z.regions) t.equal;
+  known = known_both z.regions x.regions (all_of NoLeaf z) y.regions (known_none z.regions) t.known;
 }
 
 tells_among : (ds : List StateDef) (k : ℕ) (d : StateDef) (inside : Kind → Numbers) (paths : List (List NameId)) → slice_get ds k ≡ Some d → Tells (state_insides insides_of d) (inside (kind_of d)) paths → Tells (states_insides insides_of ds) (among ds k inside) paths
@@ -178,9 +204,18 @@ parts_length : (name : NameId) (x : Insides) (rest : List Region) (n : Number) (
 parts_length name x rest n ns more e f =
     ap suc (length_both (map (region_under name) x.regions) rest ns more (length_mapped (region_under name) x.regions ∙ e) f)
 
+-- a partition with what is inside it, before others
+part_known : (name : NameId) (x : Insides) (rest : List Region) (n : Number) (ns more : List Number) → IsNumberOf (record { path = name ∷ []; leaves = x.leaves }) n → AreNumbersOf x.regions ns → AreNumbersOf rest more
+    → AreNumbersOf ((record { path = name ∷ []; leaves = x.leaves } ∷ map (region_under name) x.regions) ++ rest) (n ∷ (ns ++ more))
+part_known name x rest n ns more is inside others = (is, known_both (map (region_under name) x.regions) rest ns more (known_under name x.regions ns inside) others)
+
+leaf_known : (path : List NameId) (x : Insides) (y : Numbers) (paths : List (List NameId)) → Tells x y paths → IsNumberOf (record { path = path; leaves = x.leaves }) y.leaf
+leaf_known path x y paths t = subst (IsNumberOf (record { path = path; leaves = x.leaves })) (sym t.is) (t.leaf, t.at)
+
 record PartsTell (rs : List Region) (ns : List Number) (paths : List (List NameId)) : Type 0 where
   pub all : told_paths rs ns ≡ paths
   pub equal : length rs ≡ length ns
+  pub known : AreNumbersOf rs ns
 
 mutual
   tells : (m : Scope) (a : Tree.Active) → IsActive m a → Tells (insides_of m) (numbers_of m (marked a)) (paths_of m a)
@@ -200,6 +235,7 @@ mutual
     at = refl;
     all = refl;
     equal = refl;
+    known = tt;
   }
   tells_inside Plain (Tree.Comp a) is = absurd is
   tells_inside Plain (Tree.Agg ps) is = absurd is
@@ -217,10 +253,11 @@ mutual
         at = refl;
         all = parts.all;
         equal = parts.equal;
+        known = parts.known;
       }
 
   tells_parts : (qs : List Partition) (ps : Tree.Parts) → AreParts qs ps → PartsTell (regions_of_partitions insides_of qs) (numbers_of_parts qs (marked_parts ps)) (paths_in_parts qs ps)
-  tells_parts [] Tree.NoParts is = record { all = refl; equal = refl }
+  tells_parts [] Tree.NoParts is = record { all = refl; equal = refl; known = tt }
   tells_parts [] (Tree.Going a ps) is = absurd is
   tells_parts [] (Tree.Finished ps) is = absurd is
   tells_parts (q ∷ qs) Tree.NoParts is = absurd is
@@ -233,6 +270,8 @@ mutual
         all = part_tells name (insides_of m) (numbers_of m (marked a)) (paths_of m a) (regions_of_partitions insides_of qs) (numbers_of_parts qs (marked_parts ps)) here
             ∙ ap (λ paths. under name (paths_of m a) ++ paths) rest.all;
         equal = parts_length name (insides_of m) (regions_of_partitions insides_of qs) (numbers_of m (marked a)).leaf (numbers_of m (marked a)).regions (numbers_of_parts qs (marked_parts ps)) here.equal rest.equal;
+        known = part_known name (insides_of m) (regions_of_partitions insides_of qs) (numbers_of m (marked a)).leaf (numbers_of m (marked a)).regions (numbers_of_parts qs (marked_parts ps))
+            (leaf_known (name ∷ []) (insides_of m) (numbers_of m (marked a)) (paths_of m a) here) here.known rest.known;
       }
   tells_parts (q ∷ qs) (Tree.Finished ps) is =
       let m = (out-Partition q).inner in
@@ -241,6 +280,7 @@ mutual
       record {
         all = done_tells name (insides_of m) (regions_of_partitions insides_of qs) (numbers_of_parts qs (marked_parts ps)) ∙ rest.all;
         equal = parts_length name (insides_of m) (regions_of_partitions insides_of qs) NoLeaf (all_of NoLeaf (insides_of m)) (numbers_of_parts qs (marked_parts ps)) (none_length NoLeaf (insides_of m).regions) rest.equal;
+        known = part_known name (insides_of m) (regions_of_partitions insides_of qs) NoLeaf (all_of NoLeaf (insides_of m)) (numbers_of_parts qs (marked_parts ps)) tt (known_none (insides_of m).regions) rest.known;
       }
 
 -- the process is a region without a path
@@ -252,3 +292,9 @@ numbers_tell M a is =
     ap (λ n. told_by (record { path = []; leaves = x.leaves }) n ++ told_paths x.regions y.regions) t.is
     ∙ ap (λ o. told_path (record { path = []; leaves = x.leaves }) o ++ told_paths x.regions y.regions) t.at
     ∙ t.all
+
+-- and each number is one of its region
+pub numbers_known : (M : Model) (a : Tree.Active) → IsActive M.root a → AreNumbersOf (regions M) (region_numbers M (marked a))
+numbers_known M a is =
+    let t = tells M.root a is in
+    (leaf_known [] (insides_of M.root) (numbers_of M.root (marked a)) (paths_of M.root a) t, t.known)

@@ -13,10 +13,13 @@ ghost use Rattle.og_model.specs.declared.Variable.{Variable};
 ghost use Rattle.og_model.specs.Configuration.{Active as Configuration, paths_of};
 ghost use Rattle.og_model.specs.Regions.{regions};
 ghost use Rattle.og_model.specs.Units.{State};
+ghost use Rattle.og_model.specs.Shown.{Rest};
+ghost use Rattle.og_csubset.specs.Reads.{end_of};
 ghost use Rattle.og_ir.specs.Cells.{Cells, Cell, global, change_global};
 ghost use Rattle.og_ir.specs.Reading.{value_in, cells_of};
 ghost use Rattle.og_layout.specs.Examples.{numbers, process, in_a, in_d, in_both, at_rest};
 ghost use Rattle.og_layout.specs.Layout.{Mark, Active, Inactive, Between, Basic, Comp, Agg, NoParts, Part, Leaf, NoLeaf, AnyLeaf, numbers_of, marked, region_numbers, told_paths, IsActive};
+ghost use Rattle.og_layout.specs.Named.{IsNamed, HasAll};
 ghost use Rattle.og_layout.specs.Layout.{Layout, slots_of, Differ, Held, A_value, A_number, Holds, Expected, AllHold, once_written, Number, held_number, expected_of, StandsFor};
 
 /// Where cells are written into a slot, the slot holds what they hold, and the others hold what they held.
@@ -76,6 +79,14 @@ pub fn values_are_held()
 /// What the numbers of all regions tell of a process at rest are the paths of its active basic states, in their order.
 pub fn numbers_tell_paths()
     ensures { (M : Model) (a : Configuration) → IsActive M.root a → told_paths (regions M) (region_numbers M (marked a)) ≡ paths_of M.root a }
+{}
+
+/// Slots that stand for a process at rest, with the names of the interface, are read as its end: with the paths of its active
+/// basic states, the values of its variables and its active timers.
+pub fn rests_are_read()
+    ensures { (M : Model) (names : List (List ℕ)) (slots : List Cells) (layout : Layout) (a : Configuration) (s : State)
+        → IsNamed M layout names → IsActive M.root a → HasAll M s → StandsFor M layout (marked a) s slots
+        → end_of M names slots ≡ Rest (paths_of M.root a) s.store.variables s.timers }
 {}
 
 /// The numbers of the regions, for one tree of states: at rest, with a partition that is done, and half entered.
