@@ -1,5 +1,5 @@
 use Rattle.std.proofs.Common.{get_or, refl, subst}
-use Rattle.og_model.specs.declared.StimId.TheVariants.{Start}
+use Rattle.og_trace.specs.Stims.{start}
 use Rattle.og_csubset.specs.declared.CProgram.{CProgram}
 use Rattle.og_cstep.specs.Machines.{run_of}
 use Rattle.og_trace.proofs.Shows.{ShownOne, coming_next, coming_again, coming_lines, coming_outcome}
@@ -8,7 +8,7 @@ use Rattle.og_trace.proofs.runs.show_stimuli.Goals as goal
 pub returns-in-Some-clause-text : goal.returns-in-Some-clause-text
 returns-in-Some-clause-text c =
     let scene = c.args.scene.now in
-    let stimulus = get_or c.args.stimuli.now c.loop-stimulus.stimulus-index Start in
+    let stimulus = get_or c.args.stimuli.now c.loop-stimulus.stimulus-index start in
     let before = run_of c.loop-stimulus.machine in
     let after = run_of c.show_one.new.machine in
     let one =
@@ -21,7 +21,7 @@ returns-in-Some-clause-text c =
 pub returns-in-Some-clause-outcome : goal.returns-in-Some-clause-outcome
 returns-in-Some-clause-outcome c behind =
     let scene = c.args.scene.now in
-    let stimulus = get_or c.args.stimuli.now c.loop-stimulus.stimulus-index Start in
+    let stimulus = get_or c.args.stimuli.now c.loop-stimulus.stimulus-index start in
     let before = run_of c.loop-stimulus.machine in
     let after = run_of c.show_one.new.machine in
     let one =
@@ -34,7 +34,7 @@ returns-in-Some-clause-outcome c behind =
 pub loop-stimulus-preserved : goal.loop-stimulus-preserved
 loop-stimulus-preserved c =
     let scene = c.args.scene.now in
-    let stimulus = get_or c.args.stimuli.now c.loop-stimulus.stimulus-index Start in
+    let stimulus = get_or c.args.stimuli.now c.loop-stimulus.stimulus-index start in
     let before = run_of c.loop-stimulus.machine in
     let after = run_of c.show_one.new.machine in
     let one =
