@@ -3,9 +3,9 @@
 
     (cd crates/og_main && rt run) ; tools/c_warnings.py [PROGRAM]
 
-The models are those of the cases of crates/og_rows/data that call `cc`. No model has values in its slots yet, so the structs
-that og_cemit makes for them are compiled too, as crates/og_cemit/specs/StructExamples.antt spells them out. The status is 1
-where a compiler warns.
+The models are those of the cases of crates/og_rows/data that call `cc`. No model has values in its slots yet, so the
+structs that og_cemit makes for them are compiled too, as crates/og_cemit/specs/StructExamples.antt spells them out. The
+status is 1 where a compiler warns.
 """
 import os
 import re
@@ -35,7 +35,8 @@ def texts_of(line, name):
     count, kind, text = re.fullmatch(r'(?:(\d+) )?([|+])(.*)', line).groups()
     text = text.replace('\\=', name)
     end = b'\n' if kind == '|' else b''
-    return b''.join(unescaped(text.replace('\\#', str(k)).replace('\\+', str(k + 1))) + end for k in range(int(count or 1)))
+    times = range(int(count or 1))
+    return b''.join(unescaped(text.replace('\\#', str(k)).replace('\\+', str(k + 1))) + end for k in times)
 
 
 def carried_out(lines, name):
@@ -60,7 +61,10 @@ def cases():
             begins = re.match(r'(case|with|head)\b ?(.*)', line)
             if begins:
                 if inside == 'case':
-                    yield carried_out(head + own, name)
+                    try:
+                        yield carried_out(head + own, name)
+                    except (KeyError, ValueError):
+                        pass  # an escape that is none: the case tries that
                 own, inside = [], 'head' if begins[1] == 'head' else 'case'
                 name = begins[2] if begins[1] == 'with' else ''
                 head = [] if begins[1] == 'head' else head
@@ -102,7 +106,8 @@ def warned(compiler, texts):
             name = os.path.join(folder, 'text.c')
             with open(name, 'wb') as file:
                 file.write(text)
-            told = subprocess.run([compiler, *FLAGS, '-c', name, '-o', os.devnull], capture_output=True, text=True).stderr
+            words = [compiler, *FLAGS, '-c', name, '-o', os.devnull]
+            told = subprocess.run(words, capture_output=True, text=True).stderr
             found = re.findall(r'^.*(?:warning|error):.*$', told, re.M)
             count += len(found)
             first = first or (found[0] if found else '')

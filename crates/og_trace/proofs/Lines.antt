@@ -87,7 +87,7 @@ shorter M n (line ∷ lines) x m more next = by (judged M (n + 1) line) (shorter
 -- ---- what each is
 
 -- an incoming signal or a timer of the model, and not the start
-abbrev IsGiven : Model → StimId → Type 0
+abbrev pub IsGiven : Model → StimId → Type 0
 IsGiven M id.Start = ⊥
 IsGiven M (id.Signal k) = IsTrue (is_stimulus_of M (id.Signal k))
 IsGiven M (id.Timer k) = IsTrue (is_stimulus_of M (id.Timer k))
@@ -137,11 +137,14 @@ named_given M (Some name) x is =
     by None signals e = timer_given M 0 name M.timers x (λ j. let none : 0 + j ≡ j = omega arith in ap (slice_get M.timers) none) e
     by (Some y) signals e = signals e
 
+abbrev line_of : StimId → List Value → Line
+line_of y vs = record { id = y; values = vs }
+
 -- a stimulus of the model whose values were read of texts
-record WasRead (M : Model) (x : Line) : Type 0 where
-  texts : List (List ℕ)
-  given : IsGiven M x.id
-  values : values_read M (sorts_of M x.id) texts ≡ Some x.values
+pub record WasRead (M : Model) (x : Line) : Type 0 where
+  pub texts : List (List ℕ)
+  pub given : IsGiven M x.id
+  pub values : values_read M (sorts_of M x.id) texts ≡ Some x.values
 
 judged_read : (M : Model) (n : ℕ) (line : List ℕ) (x : Line) → judged M n line ≡ Ok (Some x) → WasRead M x
 judged_read M n line x is = by (nat_lt 1000000 n) (nat_lt 65536 (length line)) (is_skipped line) (form_in line) is
@@ -149,7 +152,7 @@ judged_read M n line x is = by (nat_lt 1000000 n) (nat_lt 65536 (length line)) (
     valued : (y : StimId) (texts : List (List ℕ)) (o : Option (List Value)) → IsGiven M y → values_read M (sorts_of M y) texts ≡ o → with_values y o ≡ Ok (Some x) → WasRead M x
     valued y texts None given read e = absurd (cc)
     valued y texts (Some vs) given read e =
-        let same : record { id = y; values = vs } ≡ x = cc in
+        let same : line_of y vs ≡ x = cc in
         subst (WasRead M) same (record { texts = texts; given = given; values = read })
 
     counted_by : (y : StimId) (texts : List (List ℕ)) (b : Bool) → IsGiven M y
@@ -168,7 +171,7 @@ judged_read M n line x is = by (nat_lt 1000000 n) (nat_lt 65536 (length line)) (
     by false false false None e = absurd (cc)
     by false false false (Some form) e = known form.1 (stimulus_named M form.0) (λ y. named_given M _ y) e
 
-all_read : (M : Model) (n : ℕ) (lines : List (List ℕ)) (i : ℕ) (x : Line) → slice_get (stims_in M n lines).list i ≡ Some x → WasRead M x
+pub all_read : (M : Model) (n : ℕ) (lines : List (List ℕ)) (i : ℕ) (x : Line) → slice_get (stims_in M n lines).list i ≡ Some x → WasRead M x
 all_read M n [] i x at = absurd (cc)
 all_read M n (line ∷ lines) i x at = by (judged M (n + 1) line) refl (all_read M (n + 1) lines) i at
   where

@@ -106,7 +106,7 @@ step_shows shows program (Broken trouble) = Nothing refl
 
 -- the values of an output are those that its arguments hold
 module _ (run : Run) (k : ℕ) where
-  held : Field → Option Val
+  abbrev held : Field → Option Val
   held = value_of_field run.model (globals_of run)
 
   arguments_are : (prefix : List ℕ) (types : List TypeId) (n i : ℕ) (vs : List Val)

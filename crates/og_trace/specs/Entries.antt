@@ -10,7 +10,7 @@ use Rattle.og_model.specs.Forms.{is_plain_state}
 use Rattle.og_model.specs.declared.EventId.{EventId}
 use Rattle.og_model.specs.declared.EventId.TheVariants as event
 use Rattle.og_model.specs.declared.StimId.{StimId}
-use Rattle.og_model.specs.declared.StimId.TheVariants as id
+use Rattle.og_model.specs.declared.StimId.TheVariants as stim
 use Rattle.og_model.specs.Shown as shown
 use Rattle.og_model.specs.Shown.{Event, End, Shown, Stimulus}
 use Rattle.og_ir.specs.Cells.{Cells}
@@ -43,9 +43,9 @@ abbrev pub entry_of : (List Cells → End) → Ran Event → Shown
 entry_of ending ran = record { events = ran.events; end = end_at ending ran.config }
 
 abbrev pub given_by : StimId → List Value → Option Stimulus
-given_by id.Start values = None
-given_by (id.Signal k) values = Some (shown.Signal k values)
-given_by (id.Timer k) values = Some (shown.Expiry k)
+given_by stim.Start values = None
+given_by (stim.Signal k) values = Some (shown.Signal k values)
+given_by (stim.Timer k) values = Some (shown.Expiry k)
 
 -- a stimulus with its values, as a run takes it; the start is none
 abbrev pub given_as : Line → Option Stimulus
@@ -58,9 +58,9 @@ ran_for P M steps x globals =
 
 -- the globals once the values of a stimulus are set
 abbrev pub set_by : CProgram → Model → StimId → List Value → List Cells → List Cells
-set_by P M id.Start values globals = globals
-set_by P M (id.Signal k) values globals = inputs_set M (global_names P) (interface.inputs_of M k) values globals
-set_by P M (id.Timer k) values globals = globals
+set_by P M stim.Start values globals = globals
+set_by P M (stim.Signal k) values globals = inputs_set M (global_names P) (interface.inputs_of M k) values globals
+set_by P M (stim.Timer k) values globals = globals
 
 -- ---- answers
 
@@ -159,9 +159,9 @@ IsReadyAt P M (Broken trouble) run = ⊥
 
 -- as many values as there are parameters, each in its type
 abbrev pub AreValuesOf : Model → StimId → List Value → Type 0
-AreValuesOf M id.Start values = ⊤
-AreValuesOf M (id.Signal k) values = IsTrue (are_in M (interface.signal_sorts M k) values)
-AreValuesOf M (id.Timer k) values = ⊤
+AreValuesOf M stim.Start values = ⊤
+AreValuesOf M (stim.Signal k) values = IsTrue (are_in M (interface.signal_sorts M k) values)
+AreValuesOf M (stim.Timer k) values = ⊤
 
 -- a stimulus of the model, or the start, with its values
 pub record IsStimulus (M : Model) (x : Line) : Type 0 where

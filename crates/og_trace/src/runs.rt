@@ -9,7 +9,7 @@ ghost use Rattle.og_csubset.specs.Reads.{inputs_set};
 ghost use Rattle.og_cstep.specs.Machines.{run_of, is_signal};
 ghost use Rattle.og_model.specs.Regions.{regions as regions_of};
 ghost use Rattle.og_stim.specs.Trace.{stimulus_line};
-ghost use Rattle.og_trace.specs.Entries.{AreStimuli, IsPlain, IsReady, IsReadyAt, IsStimulus, end_at, entry_of, lines_for, outcome_for, outcome_told, ran_for, set_by};
+ghost use Rattle.og_trace.specs.Entries.{AreStimuli, IsPlain, IsReady, IsReadyAt, IsStimulus, end_at, entry_of, given_as, lines_for, outcome_for, outcome_told, ran_for, set_by};
 ghost use Rattle.og_trace.specs.Traces.{shown_lines};
 ghost use Rattle.og_trace.specs.declared.Outcome.{Outcome};
 
@@ -83,8 +83,7 @@ fn show_one(
         (run_of machine.new)) }
 {
     show_stimulus(scene.model, stimulus, out)?;
-    set_values(machine, scene.model, stimulus)?;
-    machine.begin(stimulus.id);
+    begin_with(machine, scene.model, stimulus)?;
     let answer = show_events(alloc, machine, scene.model, steps, out)?;
     show_ending(
         alloc,
@@ -96,6 +95,20 @@ fn show_one(
         out,
     )?;
     Ok(outcome_of_answer(answer))
+}
+
+/// A stimulus begins, with its values.
+fn begin_with(machine: &mut Machine, model: &Model, stimulus: &Stimulus) -> Result<(), NoMemory>
+    requires ready { IsReady (run_of machine.old).program model.now (run_of machine.old).cells (run_of machine.old) }
+    requires stimulus { IsStimulus model.now stimulus.now }
+    ensures program { OnOk result ((run_of machine.new).program ≡ (run_of machine.old).program) }
+    ensures model { OnOk result ((run_of machine.new).model ≡ model.now) }
+    ensures config { OnOk result ((run_of machine.new).config
+        ≡ (c_machine (run_of machine.old).program model.now).begin (given_as stimulus.now) (run_of machine.old).cells) }
+{
+    set_values(machine, model, stimulus)?;
+    machine.begin(stimulus.id);
+    Ok(())
 }
 
 /// The parameters of a signal hold the values of a stimulus.
