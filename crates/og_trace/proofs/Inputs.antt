@@ -20,13 +20,15 @@ use Rattle.og_csubset.specs.Reads.{put_named, cells_of_shape, inputs_set}
 use Rattle.og_csubset.specs.Run.{entered, begun, c_machine}
 use Rattle.og_cstep.specs.declared.Advance.{Advance}
 use Rattle.og_cstep.specs.declared.Advance.TheVariants as advance
+use Rattle.og_cstep.specs.Answered.{answer_at_end}
 use Rattle.og_cstep.specs.Inputs.{is_parameter_value}
 use Rattle.og_csubset.specs.Loading.{passes}
 use Rattle.og_cstep.specs.Machines.{Run, CanBegin, stimulus_of, begins, put_field, with_cells, with_input}
 use Rattle.og_stim.specs.declared.stimuli.Stimulus.{Stimulus}
 use Rattle.og_names.proofs.Truths.{both_first, both_second}
 use Rattle.og_value.proofs.Within.{there}
-use Rattle.og_trace.specs.Entries.{IsLive, IsReady, given_by, given_as, set_by}
+use Rattle.og_trace.specs.declared.Outcome.TheVariants as outcome
+use Rattle.og_trace.specs.Entries.{IsLive, IsLast, IsReady, IsReadyAt, StandsAt, given_by, given_as, set_by, end_at, outcome_told}
 
 -- ---- a parameter
 
@@ -163,3 +165,27 @@ module _ (P : CProgram) (M : Model) where
 
   pub is_live : (x : Stimulus) (globals : List Cells) (config : Config) → config ≡ (c_machine P M).begin (given_as x) globals → IsLive config
   is_live x globals config e = subst IsLive (sym e) (begun_live x.id x.values globals)
+
+-- ---- the next one can come
+
+by_answer : (answer : Advance) (last : Option Advance) (globals : List Cells) → outcome_told answer ≡ None → IsLast answer last → CanBegin (Over globals) last
+by_answer (advance.Event event) last globals none is = absurd (cc)
+by_answer advance.Moved last globals none is = absurd (cc)
+by_answer advance.Rest last globals none is = subst (CanBegin (Over globals)) (sym is) tt
+by_answer (advance.Fault kind place) last globals none is = absurd (cc)
+by_answer advance.Stopped last globals none is = subst (CanBegin (Over globals)) (sym is) tt
+by_answer (advance.Stuck rule) last globals none is = absurd (cc)
+
+pub ready_at : (P : CProgram) (M : Model) (config : Config) (answer : Advance) (run : Run) → StandsAt P M config answer run
+    → answer ≡ answer_at_end (end_at (c_machine P M).ending config) → outcome_told answer ≡ None → IsReadyAt P M config run
+ready_at P M (Running globals frame callers) answer run stands is none =
+    absurd (let told : Some outcome.Past ≡ None = ap outcome_told (sym is) ∙ none in cc)
+ready_at P M (Over globals) answer run stands is none = record {
+  program = stands.program;
+  model = stands.model;
+  cells = stands.cells;
+  config = stands.config;
+  can = subst (λ c. CanBegin c run.last) (sym stands.config) (by_answer answer run.last globals none stands.last);
+}
+ready_at P M (Broken trouble) answer run stands is none =
+    absurd (let told : Some outcome.Stuck ≡ None = ap outcome_told (sym is) ∙ none in cc)

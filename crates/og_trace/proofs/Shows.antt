@@ -8,13 +8,14 @@ use Rattle.og_stim.specs.declared.stimuli.Stimulus.{Stimulus}
 use Rattle.og_model.specs.Shown as shown
 use Rattle.og_model.specs.Shown.{Event, End, Shown}
 use Rattle.og_ir.specs.Cells.{Cells}
-use Rattle.og_ir.specs.Steps.{Config, Running, Over, Broken}
+use Rattle.og_ir.specs.Steps.{Config, Running, Over, Broken, exec}
 use Rattle.og_csubset.specs.declared.CProgram.{CProgram}
 use Rattle.og_csubset.specs.Kinds.{first_globals}
 use Rattle.og_csubset.specs.Run.{goes_on, shown_by, runs, c_machine, c}
 use Rattle.og_cstep.specs.Answered.{answer_at_end}
 use Rattle.og_cstep.specs.Machines.{Run}
-use Rattle.og_stim.specs.Trace.{Bytes, stimulus_line}
+use Rattle.std.specs.List.{flat_map}
+use Rattle.og_stim.specs.Trace.{Bytes, stimulus_line, event_line, end_lines}
 use Rattle.og_trace.specs.declared.Outcome.{Outcome}
 use Rattle.og_trace.specs.Stims.{BadLine, stims_of, start}
 use Rattle.og_trace.specs.Traces.{shown_lines, trace_of, outcome_by, outcome_of, shown_over_file, at_file_end, run_text, run_outcome, line_if_bad}
@@ -67,6 +68,23 @@ nothing_shown M files (x ∷ xs) = refl
 abbrev pub lines_of_one : CProgram → Model → List Word → ℕ → Stimulus → List Cells → Bytes
 lines_of_one P M files steps x globals =
     stimulus_line M x ++ shown_lines M files (entry_of (c_machine P M).ending (ran_for P M steps x globals))
+
+-- the line of a stimulus, its events and its end, written one behind the other by a machine whose program and config are these
+pub shown_text : (P : CProgram) (M : Model) (files : List Word) (steps : ℕ) (x : Stimulus) (globals : List Cells) (p q : CProgram) (first last : Config)
+    (out named shown after : Bytes)
+    → p ≡ P → first ≡ (c_machine P M).begin (given_as x) globals → q ≡ p → last ≡ (exec (c_machine p M).step steps first).config
+    → named ≡ out ++ stimulus_line M x → shown ≡ named ++ flat_map (event_line M) (exec (c_machine p M).step steps first).events
+    → after ≡ shown ++ end_lines M files (end_at (c_machine q M).ending last) → after ≡ out ++ lines_of_one P M files steps x globals
+shown_text P M files steps x globals p q first last out named shown after program begun same place one two three =
+    let E : CProgram → Config → Bytes = λ r config. end_lines M files (end_at (c_machine r M).ending config) in
+    let V : CProgram → Config → Bytes = λ r config. flat_map (event_line M) (exec (c_machine r M).step steps config).events in
+    let start_of = (c_machine P M).begin (given_as x) globals in
+    let end = (exec (c_machine P M).step steps start_of).config in
+    three
+    ∙ (λ j. two j ++ E (same j) (place j))
+    ∙ (λ j. (one j ++ V (program j) (begun j)) ++ E (program j) (exec (c_machine (program j) M).step steps (begun j)).config)
+    ∙ append_assoc (out ++ stimulus_line M x) (V P start_of) (E P end)
+    ∙ append_assoc out (stimulus_line M x) (V P start_of ++ E P end)
 
 shown_next : (P : CProgram) (M : Model) (steps : ℕ) (x : Stimulus) (xs : List Stimulus) (globals next : List Cells) (config : Config) → (ran_for P M steps x globals).config ≡ config → config ≡ Over next
     → outcome_told (answer_at_end (end_at (c_machine P M).ending config)) ≡ None

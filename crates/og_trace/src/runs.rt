@@ -119,7 +119,7 @@ fn set_values(
 ) -> Result<(), NoMemory>
     requires ready { IsReady (run_of machine.old).program model.now (run_of machine.old).cells (run_of machine.old) }
     requires stimulus { IsStimulus model.now stimulus.now }
-    ensures ready { OnOk result (IsReady (run_of machine.old).program model.now
+    ensures { OnOk result (IsReady (run_of machine.old).program model.now
         (set_by (run_of machine.old).program model.now stimulus.now.id stimulus.now.values (run_of machine.old).cells)
         (run_of machine.new)) }
 {
@@ -139,7 +139,7 @@ fn set_inputs(
     requires ready { IsReady (run_of machine.old).program model.now (run_of machine.old).cells (run_of machine.old) }
     requires incoming { IsTrue (is_signal (slice_get model.now.signals signal)) }
     requires values { IsTrue (are_in model.now (signal_sorts model.now signal) values.now) }
-    ensures ready { OnOk result (IsReady (run_of machine.old).program model.now
+    ensures { OnOk result (IsReady (run_of machine.old).program model.now
         (inputs_set model.now (global_names (run_of machine.old).program) (inputs_of model.now signal) values.now (run_of machine.old).cells)
         (run_of machine.new)) }
 {
