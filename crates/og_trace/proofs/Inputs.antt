@@ -2,7 +2,7 @@
 use Rattle.std.proofs.Common.{◌≡◌, ℕ, zero, suc, ◌+◌, ◌<◌, ◌≤◌, ◌++◌, List, [], ◌∷◌, Bool, true, false, ◌&&◌, Option, Some, None, length, drop, get_or, slice_get, refl, sym, ap, subst, ◌∙◌, arith}
 use Rattle.std.specs.Prelude.{IsTrue, codes, decimal}
 use Rattle.std.proofs.lemmas.Bool.{false≢true}
-use Rattle.std.proofs.lemmas.List.{at_drop_all}
+use Rattle.std.proofs.lemmas.List.{append_assoc, at_drop_all, at_drop_more}
 use Rattle.std.proofs.lemmas.Option.{none-some, slice_get_read}
 use Rattle.og_types.specs.declared.TypeId.{TypeId}
 use Rattle.og_types.specs.declared.Value.{Value}
@@ -23,12 +23,13 @@ use Rattle.og_cstep.specs.declared.Advance.TheVariants as advance
 use Rattle.og_cstep.specs.Answered.{answer_at_end}
 use Rattle.og_cstep.specs.Inputs.{is_parameter_value}
 use Rattle.og_csubset.specs.Loading.{passes}
-use Rattle.og_cstep.specs.Machines.{Run, CanBegin, stimulus_of, begins, put_field, with_cells, with_input}
+use Rattle.og_cstep.specs.Machines.{Run, CanBegin, argument_in, stimulus_of, begins, put_field, with_cells, with_input}
 use Rattle.og_stim.specs.declared.stimuli.Stimulus.{Stimulus}
+use Rattle.og_names.proofs.Loops.{Left}
 use Rattle.og_names.proofs.Truths.{both_first, both_second}
 use Rattle.og_value.proofs.Within.{there}
 use Rattle.og_trace.specs.declared.Outcome.TheVariants as outcome
-use Rattle.og_trace.specs.Entries.{IsLive, IsLast, IsReady, IsReadyAt, StandsAt, given_by, given_as, set_by, end_at, outcome_told}
+use Rattle.og_trace.specs.Entries.{value_list, arguments_from, IsLive, IsLast, IsReady, IsReadyAt, StandsAt, given_by, given_as, set_by, end_at, outcome_told}
 
 -- ---- a parameter
 
@@ -189,3 +190,18 @@ ready_at P M (Over globals) answer run stands is none = record {
 }
 ready_at P M (Broken trouble) answer run stands is none =
     absurd (let told : Some outcome.Stuck ≡ None = ap outcome_told (sym is) ∙ none in cc)
+
+-- ---- the values of an output, one by one
+
+pub arguments_more : (run : Run) (k : ℕ) (values next : List Value) (sorts : List TypeId) (i : ℕ) (total : List Value)
+    → i < length sorts → next ≡ values ++ value_list (argument_in run k i)
+    → Left (λ (ts : List TypeId). values ++ arguments_from run k i ts) sorts i total
+    → Left (λ (ts : List TypeId). next ++ arguments_from run k (i + 1) ts) sorts (i + 1) total
+arguments_more run k values next sorts i total lt e left =
+    let rest = arguments_from run k (i + 1) (drop (i + 1) sorts) in
+    record {
+      is = ap (λ vs. vs ++ rest) e
+          ∙ append_assoc values (value_list (argument_in run k i)) rest
+          ∙ sym (at_drop_more (λ (ts : List TypeId). values ++ arguments_from run k i ts) sorts i (record { 0 = 0 }) lt)
+          ∙ left.is;
+    }
