@@ -1,12 +1,12 @@
 #!/usr/bin/env python3
-"""Measures how long `og run` takes: a statement that assigns to one item of an array, by the size of the array, and a run
-over a million stimuli, beside the same C as gcc compiles it.
+"""Measures how long `og run` takes: a statement that assigns to one item of an array, by the size of the array, and a
+run over a million stimuli, beside the same C as gcc compiles it.
 
     (cd crates/og_main && rt run) ; tools/cells_times.py
 
-Each time is the least processor time of nine processes. From that of the arrays the time of a process is taken that carries
-out no assignment. The status is 1 where the arrays differ by more than a tenth, where the run takes more than twice the time
-of the compiled C, or where a trace is not the one that is wanted.
+Each time is the least processor time of nine processes. From that of the arrays the time of a process is taken that
+carries out no assignment. The status is 1 where the arrays differ by more than a tenth, where the run takes more than
+twice the time of the compiled C, or where a trace is not the one that is wanted.
 """
 import os
 import resource
@@ -95,7 +95,7 @@ def written(name, text):
 
 def one_array(size, turns):
     text = written('array.c', ARRAY % (size, turns, size))
-    took, told = seconds([PROGRAM, 'run', 'lamp.pr', text, 'empty.stim', '--steps', '4000000000'])
+    took, told = seconds([PROGRAM, 'run', 'lamp.pr', text, 'empty.stim', '--steps', '1000000000'])
     if told != b'> start\nrest\nstate dark\n':
         sys.exit(f'an array of {size}: the trace is {told[:99]}')
     return took

@@ -1,6 +1,4 @@
 //! A trace with a timer, over a region with a state inside another.
-ghost use Rattle.std.specs.Prelude.{◌≡◌, [], IfOk};
-ghost use Rattle.og_stim.specs.Trace.{HasNoValues};
 
 use og_model::{Leaf, Model, Region, Scope, Signal, StimId};
 use og_names::{NameId, Names, NoMemory};
@@ -12,9 +10,7 @@ use std::alloc::Global;
 use std::test::Fail;
 
 /// A model with a signal `go`, an outgoing one `done`, and a timer `slow`.
-fn small_model(alloc: Global) -> Result<Model, NoMemory>
-    ensures { IfOk result (λ model. model.variables ≡ []) }
-{
+fn small_model(alloc: Global) -> Result<Model, NoMemory> {
     let mut names = Names::new(alloc);
     let go = names.add(b"go")?;
     let done = names.add(b"done")?;
@@ -65,18 +61,14 @@ fn small_regions(alloc: Global) -> Result<Regions, NoMemory> {
     Ok(Regions { list })
 }
 
-fn stimulus(alloc: Global, id: StimId) -> Stimulus
-    ensures { result.values ≡ [] }
-{
+fn stimulus(alloc: Global, id: StimId) -> Stimulus {
     Stimulus {
         id,
         values: Items::new(alloc),
     }
 }
 
-fn output(alloc: Global, signal: u32) -> Happening
-    ensures { HasNoValues result }
-{
+fn output(alloc: Global, signal: u32) -> Happening {
     Happening::Output {
         signal,
         values: Items::new(alloc),
@@ -94,9 +86,7 @@ fn rest_at(alloc: Global, leaf: u32, runs: bool) -> Result<TraceEnd, NoMemory> {
 }
 
 /// A start that sets a timer and rests in `done`.
-fn trace_of_start(alloc: Global, model: &Model, out: &mut Vec<u8>) -> Result<(), NoMemory>
-    requires { model.now.variables ≡ [] }
-{
+fn trace_of_start(alloc: Global, model: &Model, out: &mut Vec<u8>) -> Result<(), NoMemory> {
     show_stimulus(model, &stimulus(alloc, StimId::Start), out)?;
     let set = Happening::Set {
         timer: 0,
@@ -109,9 +99,7 @@ fn trace_of_start(alloc: Global, model: &Model, out: &mut Vec<u8>) -> Result<(),
 }
 
 /// An expiry that shows an output, resets the timer and rests at `go` in `done`.
-fn trace_of_expiry(alloc: Global, model: &Model, out: &mut Vec<u8>) -> Result<(), NoMemory>
-    requires { model.now.variables ≡ [] }
-{
+fn trace_of_expiry(alloc: Global, model: &Model, out: &mut Vec<u8>) -> Result<(), NoMemory> {
     show_stimulus(model, &stimulus(alloc, StimId::Timer(0)), out)?;
     show_event(model, &output(alloc, 1), out)?;
     show_event(model, &Happening::Reset { timer: 0 }, out)?;

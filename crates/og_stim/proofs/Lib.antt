@@ -1,3 +1,5 @@
 pub mod Splitting
 pub mod Stepping
 pub mod Ending
+pub mod Texts
+pub mod Formed

@@ -2,6 +2,9 @@
 -- line is the blank and the tab.
 use Rattle.std.specs.Prelude.{ℕ, Bool, false, not, List, [], ◌∷◌, if◌then◌else◌, ◌&&◌, ◌||◌, ◌==◌}
 use Rattle.std.specs.List.{list_all}
+use Rattle.og_value.specs.Bytes.{is_blank}
+use Rattle.og_stim.specs.declared.lines.Class.{Class}
+use Rattle.og_stim.specs.declared.lines.Class.TheVariants as class
 
 abbrev pub begins_with : ℕ → List ℕ → Bool
 begins_with byte [] = false
@@ -18,12 +21,14 @@ lines_of [] = []
 lines_of (b ∷ bs) =
     if b == 10 then [] ∷ lines_of bs else (if b == 13 && begins_with 10 bs then lines_of bs else in_front b (lines_of bs))
 
-abbrev pub is_blank : ℕ → Bool
-is_blank b = b == 32 || b == 9
-
 -- all but the end of a line
 abbrev pub is_line_byte : ℕ → Bool
 is_line_byte b = not (b == 10)
+
+-- the bytes of a class
+abbrev pub test_of : Class → ℕ → Bool
+test_of class.Line = is_line_byte
+test_of class.Blank = is_blank
 
 -- without a CR at the end
 abbrev pub without_return : List ℕ → List ℕ

@@ -1,13 +1,14 @@
 -- Which stimulus each line of a stimuli file is, and the first rule that a line breaks: Q6, a line past 1,000,000; Q5, a line of
--- more than 65,536 bytes; Q1, a line of no form; Q2, a name that is no incoming signal and no timer of the model. A line that
--- is blank or a comment is skipped, but counts. Every other line is one name, with blanks free around it. TRUE and FALSE in
--- capitals are no names. Names are folded, as in the model. The form of stimuli files is this project's own.
-use Rattle.std.specs.Prelude.{◌≡◌, ℕ, ◌+◌, ◌-◌, Bool, false, List, [], ◌∷◌, if◌then◌else◌, ◌&&◌, ◌||◌, ◌==◌, not, nat_lt, length, take, drop, codes, Option, Some, None, Result, Ok, Err}
-use Rattle.std.specs.Char.{is_ascii_alphabetic, is_ascii_alphanumeric}
-use Rattle.std.specs.List.{list_all, prefix_len}
-use Rattle.std.specs.Str.{bytes_eq}
+-- more than 65,536 bytes; Q1, a line of no form; Q2, a name that is no incoming signal and no timer of the model; Q3, more or
+-- fewer values than the signal has parameters, or any for a timer; Q4, a text that reads as no value of its parameter's type.
+-- A line that is blank or a comment is skipped, but counts. Names are folded, as in the model. The form of stimuli files is
+-- this project's own.
+use Rattle.std.specs.Prelude.{◌≡◌, ℕ, ◌+◌, ◌-◌, Bool, List, [], ◌∷◌, if◌then◌else◌, ◌&&◌, ◌==◌, nat_lt, length, drop, slice_get, Option, Some, None, option_map, Result, Ok, Err}
 use Rattle.og_names.specs.declared.NameId.{NameId}
 use Rattle.og_names.specs.Folding.{folded, place_of}
+use Rattle.og_types.specs.declared.TypeId.{TypeId}
+use Rattle.og_types.specs.declared.Value.{Value}
+use Rattle.og_value.specs.Scans.{found_in}
 use Rattle.og_model.specs.declared.Model.{Model}
 use Rattle.og_model.specs.declared.Signal.{Signal}
 use Rattle.og_model.specs.declared.StimId.{StimId}
@@ -18,46 +19,10 @@ use Rattle.og_stim.specs.declared.stimuli.StimError.{StimError}
 use Rattle.og_stim.specs.declared.stimuli.StimError.TheVariants as error
 use Rattle.og_stim.specs.declared.stimuli.Cursor.{Cursor}
 use Rattle.og_stim.specs.declared.stimuli.Stimulus.{Stimulus}
-use Rattle.og_stim.specs.declared.lines.Class.{Class}
-use Rattle.og_stim.specs.declared.lines.Class.TheVariants as class
-use Rattle.og_stim.specs.Lines.{lines_of, is_line_byte, is_blank, is_skipped}
+use Rattle.og_stim.specs.Lines.{lines_of, is_skipped}
+use Rattle.og_stim.specs.Scans.{form_in}
 
--- ---- the name in a line
-
--- a letter, a digit or an underline
-abbrev pub is_word : ℕ → Bool
-is_word b = is_ascii_alphanumeric b || b == 95
-
--- the bytes of a class
-abbrev pub test_of : Class → ℕ → Bool
-test_of class.Line = is_line_byte
-test_of class.Blank = is_blank
-test_of class.Word = is_word
-
--- what stands behind the blanks in front
-abbrev pub behind_blanks : List ℕ → List ℕ
-behind_blanks line = drop (prefix_len is_blank line) line
-
-abbrev pub begins_with_letter : List ℕ → Bool
-begins_with_letter [] = false
-begins_with_letter (b ∷ bs) = is_ascii_alphabetic b
-
--- TRUE or FALSE in capitals, which are no names; in any other case they are names
-abbrev pub is_truth_word : List ℕ → Bool
-is_truth_word word = bytes_eq word (codes "TRUE") || bytes_eq word (codes "FALSE")
-
--- the word in front, if it is a name and nothing but blanks stands behind it
-abbrev pub name_at_front : List ℕ → Option (List ℕ)
-name_at_front bytes =
-    if begins_with_letter bytes && (not (is_truth_word (take (prefix_len is_word bytes) bytes)) && list_all is_blank (drop (prefix_len is_word bytes) bytes))
-    then Some (take (prefix_len is_word bytes) bytes)
-    else None
-
--- the name that is all of the line but blanks
-abbrev pub name_in : List ℕ → Option (List ℕ)
-name_in line = name_at_front (behind_blanks line)
-
--- ---- what it names
+-- ---- what a name names
 
 -- the first incoming signal of this name, where the list begins with the k-th
 abbrev pub signal_from : ℕ → ℕ → List Signal → Option StimId
@@ -81,31 +46,74 @@ numbered M (Some name) = or_timer M name (signal_from 0 name M.signals)
 abbrev pub stimulus_named : Model → List ℕ → Option StimId
 stimulus_named M name = numbered M (place_of M.names (folded name))
 
+-- ---- its values
+
+abbrev pub sorts_in : Option Signal → List TypeId
+sorts_in None = []
+sorts_in (Some s) = s.sorts
+
+-- the types of a signal's parameters
+abbrev pub signal_sorts : Model → ℕ → List TypeId
+signal_sorts M k = sorts_in (slice_get M.signals k)
+
+-- the types of the values of a stimulus
+abbrev pub sorts_of : Model → StimId → List TypeId
+sorts_of M id.Start = []
+sorts_of M (id.Signal k) = signal_sorts M k
+sorts_of M (id.Timer k) = []
+
+-- the value of the type that a text reads as
+unfoldable pub value_read : Model → TypeId → List ℕ → Option Value
+value_read M sort text = option_map (λ found. found.0) (found_in M.types M.names sort text)
+
+abbrev pub value_with : Option Value → Option (List Value) → Option (List Value)
+value_with None others = None
+value_with (Some v) others = option_map (λ vs. v ∷ vs) others
+
+-- those that as many texts read as, if each reads as one
+abbrev pub values_read : Model → List TypeId → List (List ℕ) → Option (List Value)
+values_read M [] texts = Some []
+values_read M (sort ∷ sorts) [] = None
+values_read M (sort ∷ sorts) (text ∷ texts) = value_with (value_read M sort text) (values_read M sorts texts)
+
 -- ---- a line
 
-abbrev pub known_or_unknown : Option StimId → Result (Option StimId) StimRule
-known_or_unknown None = Err rule.Q2
-known_or_unknown (Some x) = Ok (Some x)
+abbrev pub Judged : Type 0
+Judged = Result (Option Stimulus) StimRule
 
-abbrev pub by_name : Model → Option (List ℕ) → Result (Option StimId) StimRule
-by_name M None = Err rule.Q1
-by_name M (Some name) = known_or_unknown (stimulus_named M name)
+abbrev pub with_values : StimId → Option (List Value) → Judged
+with_values x None = Err rule.Q4
+with_values x (Some vs) = Ok (Some (record { id = x; values = vs }))
+
+-- the stimulus with the values of these texts
+abbrev pub counted : Model → List (List ℕ) → StimId → Judged
+counted M texts x =
+    if length texts == length (sorts_of M x) then with_values x (values_read M (sorts_of M x) texts) else Err rule.Q3
+
+abbrev pub known_or_unknown : Model → List (List ℕ) → Option StimId → Judged
+known_or_unknown M texts None = Err rule.Q2
+known_or_unknown M texts (Some x) = counted M texts x
+
+-- by the name and the texts of a line
+abbrev pub by_form : Model → Option (List ℕ × List (List ℕ)) → Judged
+by_form M None = Err rule.Q1
+by_form M (Some form) = known_or_unknown M form.1 (stimulus_named M form.0)
 
 -- nothing, a stimulus, or the first rule that the line of this number breaks
-abbrev pub judged : Model → ℕ → List ℕ → Result (Option StimId) StimRule
+abbrev pub judged : Model → ℕ → List ℕ → Judged
 judged M n line =
     if nat_lt 1000000 n then Err rule.Q6
-    else (if nat_lt 65536 (length line) then Err rule.Q5 else (if is_skipped line then Ok None else by_name M (name_in line)))
+    else (if nat_lt 65536 (length line) then Err rule.Q5 else (if is_skipped line then Ok None else by_form M (form_in line)))
 
 -- ---- a file
 
 -- What comes next in a file: its end, a stimulus in the line of this number with the lines behind it, or a bad line.
 pub data Next : Type 0 where
   AtEnd : Next
-  Stands : (stimulus : StimId) (line : ℕ) (more : List (List ℕ)) → Next
+  Stands : (stimulus : Stimulus) (line : ℕ) (more : List (List ℕ)) → Next
   Bad : (line : ℕ) (rule : StimRule) → Next
 
-abbrev pub next_by : Result (Option StimId) StimRule → ℕ → List (List ℕ) → Next → Next
+abbrev pub next_by : Judged → ℕ → List (List ℕ) → Next → Next
 next_by (Ok None) n more later = later
 next_by (Ok (Some x)) n more later = Stands x n more
 next_by (Err r) n more later = Bad n r
@@ -124,7 +132,7 @@ line_at text cursor offset = cursor.line + length (lines_of (drop cursor.offset 
 abbrev pub IsNext : Model → List ℕ → Cursor → Cursor → Option Stimulus → Type 0
 IsNext M text old new None = (new.offset ≡ length text) × (next_in M old.line (lines_of (drop old.offset text)) ≡ AtEnd)
 IsNext M text old new (Some x) =
-    (x.values ≡ []) × (next_in M old.line (lines_of (drop old.offset text)) ≡ Stands x.id new.line (lines_of (drop new.offset text)))
+    next_in M old.line (lines_of (drop old.offset text)) ≡ Stands x new.line (lines_of (drop new.offset text))
 
 abbrev pub IsBadLine : Model → List ℕ → Cursor → Cursor → StimError → Type 0
 IsBadLine M text old new (error.Bad line r) =

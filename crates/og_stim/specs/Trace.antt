@@ -1,6 +1,6 @@
 -- How a run is shown, line by line: the start or a stimulus behind `> `; each event; and the end. At rest there is a line for each
 -- active state, by the names from the process inward with a dot between them, and for each active timer; a fault has its kind
--- and its place. The form of traces is this project's own. Until data is read no signal has values and no model has variables.
+-- and its place. Values are shown as og_value writes them. The form of traces is this project's own.
 use Rattle.std.specs.Prelude.{◌≡◌, ℕ, suc, ℤ, pos, negsuc, Bool, true, false, List, [], ◌∷◌, ◌++◌, Option, Some, None, codes, decimal, map, slice_get, unwrap_or}
 use Rattle.std.specs.Option.{option_map}
 use Rattle.std.specs.List.{flat_map}
@@ -22,6 +22,12 @@ use Rattle.og_stim.specs.declared.show.Happening.TheVariants as happening
 use Rattle.og_stim.specs.declared.show.ActiveLeaf.{ActiveLeaf}
 use Rattle.og_stim.specs.declared.show.TraceEnd.{TraceEnd}
 use Rattle.og_stim.specs.declared.show.TraceEnd.TheVariants as ending
+use Rattle.og_model.specs.declared.Variable.{Variable}
+use Rattle.og_types.specs.declared.TypeId.{TypeId}
+use Rattle.og_types.specs.declared.Value.{Value}
+use Rattle.og_value.specs.Shows.{shown, separated}
+use Rattle.og_stim.specs.declared.stimuli.Stimulus.{Stimulus}
+use Rattle.og_stim.specs.Stimuli.{signal_sorts, sorts_of}
 use Rattle.og_model.specs.Shown.{Event, Output, Set, Reset, End, Rest, Fault, Stopped, Past, Stuck}
 
 abbrev pub Bytes : Type 0
@@ -46,14 +52,33 @@ signal_name M k = name_if M (option_map (λ (s : Signal). s.name) (slice_get M.s
 abbrev pub timer_name : Model → ℕ → Bytes
 timer_name M k = name_if M (slice_get M.timers k)
 
+-- ---- values
+
+abbrev pub value_texts : Model → List TypeId → List Value → List Bytes
+value_texts M [] vs = []
+value_texts M (sort ∷ sorts) [] = []
+value_texts M (sort ∷ sorts) (v ∷ vs) = shown M.types M.names sort v ∷ value_texts M sorts vs
+
+-- with `, ` between two of them, in brackets; nothing where there are none
+abbrev pub in_brackets : List Bytes → Bytes
+in_brackets [] = []
+in_brackets (text ∷ texts) = codes "(" ++ separated (text ∷ texts) ++ codes ")"
+
+-- the values of parameters of these types
+abbrev pub arguments_text : Model → List TypeId → List Value → Bytes
+arguments_text M sorts vs = in_brackets (value_texts M sorts vs)
+
 -- ---- stimuli and events
 
-abbrev pub stimulus_text : Model → StimId → Bytes
-stimulus_text M id.Start = codes "start"
-stimulus_text M (id.Signal k) = signal_name M k
-stimulus_text M (id.Timer k) = timer_name M k
+abbrev pub name_of_stimulus : Model → StimId → Bytes
+name_of_stimulus M id.Start = codes "start"
+name_of_stimulus M (id.Signal k) = signal_name M k
+name_of_stimulus M (id.Timer k) = timer_name M k
 
-abbrev pub stimulus_line : Model → StimId → Bytes
+abbrev pub stimulus_text : Model → Stimulus → Bytes
+stimulus_text M x = name_of_stimulus M x.id ++ arguments_text M (sorts_of M x.id) x.values
+
+abbrev pub stimulus_line : Model → Stimulus → Bytes
 stimulus_line M x = line (codes "> " ++ stimulus_text M x)
 
 abbrev pub number_text : ℤ → Bytes
@@ -61,7 +86,7 @@ number_text (pos n) = decimal n
 number_text (negsuc n) = codes "-" ++ decimal (suc n)
 
 abbrev pub event_text : Model → Event → Bytes
-event_text M (Output k values) = codes "output " ++ signal_name M k
+event_text M (Output k values) = codes "output " ++ signal_name M k ++ arguments_text M (signal_sorts M k) values
 event_text M (Set k duration) = codes "set " ++ timer_name M k ++ codes "(" ++ number_text duration ++ codes ")"
 event_text M (Reset k) = codes "reset " ++ timer_name M k
 
@@ -78,6 +103,15 @@ dotted M (name ∷ other ∷ names) = name_of M name ++ codes "." ++ dotted M (o
 
 abbrev pub state_line : Model → List NameId → Bytes
 state_line M path = line (codes "state " ++ dotted M path)
+
+abbrev pub var_line : Model → Variable → Value → Bytes
+var_line M x v = line (codes "var " ++ name_of M x.name ++ codes " = " ++ shown M.types M.names x.sort v)
+
+-- these variables with their values
+abbrev pub var_lines : Model → List Variable → List Value → Bytes
+var_lines M [] values = []
+var_lines M (x ∷ variables) [] = []
+var_lines M (x ∷ variables) (v ∷ values) = var_line M x v ++ var_lines M variables values
 
 abbrev pub timer_line : Model → NameId → Bytes
 timer_line M t = line (codes "timer " ++ name_of M t)
@@ -118,12 +152,16 @@ fault_line files kind place = line (codes "fault " ++ kind_text kind ++ codes " 
 abbrev pub stuck_line : StuckRule → Bytes
 stuck_line rule = line (codes "stuck " ++ stuck_text rule)
 
--- how a run has ended, in a model without variables
+-- the variables, and the active timers
+abbrev pub lines_of_process : Model → List Value → List Bool → Bytes
+lines_of_process M values timers = var_lines M M.variables values ++ timer_lines M M.timers timers
+
+-- how a run has ended
 abbrev pub end_lines : Model → List Word → End → Bytes
-end_lines M files (Rest paths values timers) = line (codes "rest") ++ flat_map (state_line M) paths ++ timer_lines M M.timers timers
+end_lines M files (Rest paths values timers) = line (codes "rest") ++ flat_map (state_line M) paths ++ lines_of_process M values timers
 end_lines M files (Fault kind place values timers) =
-    fault_line files kind place ++ timer_lines M M.timers timers
-end_lines M files (Stopped values) = line (codes "stopped")
+    fault_line files kind place ++ lines_of_process M values timers
+end_lines M files (Stopped values) = line (codes "stopped") ++ var_lines M M.variables values
 end_lines M files Past = line (codes "past")
 end_lines M files (Stuck rule) = stuck_line rule
 
@@ -150,8 +188,9 @@ abbrev pub leaf_line : Model → List Region → ActiveLeaf → Bytes
 leaf_line M regions active = state_line M (path_of regions active)
 
 -- the lines of rest, by the numbers of leaves
-abbrev pub rest_lines : Model → List Region → List ActiveLeaf → List Bool → Bytes
-rest_lines M regions leaves timers = line (codes "rest") ++ flat_map (leaf_line M regions) leaves ++ timer_lines M M.timers timers
+abbrev pub rest_lines : Model → List Region → List ActiveLeaf → List Value → List Bool → Bytes
+rest_lines M regions leaves values timers =
+    line (codes "rest") ++ flat_map (leaf_line M regions) leaves ++ lines_of_process M values timers
 
 abbrev pub end_of : List Region → TraceEnd → End
 end_of regions (ending.Rest leaves values timers) = Rest (map (path_of regions) leaves) values timers
@@ -159,9 +198,3 @@ end_of regions (ending.Fault kind place values timers) = Fault kind place values
 end_of regions (ending.Stopped values) = Stopped values
 end_of regions ending.Past = Past
 end_of regions (ending.Stuck rule) = Stuck rule
-
--- an output without values, or an event of a timer
-abbrev pub HasNoValues : Happening → Type 0
-HasNoValues (happening.Output k values) = values ≡ []
-HasNoValues (happening.Set k duration) = Unit {0}
-HasNoValues (happening.Reset k) = Unit {0}

@@ -1,9 +1,8 @@
-//! Lines, and the name in a line.
+//! The lines of a text.
 ghost use Rattle.std.specs.Prelude.{◌≡◌, ◌≤◌, ◌<◌, ◌==◌, ◌∷◌, not, length, drop};
-ghost use Rattle.std.specs.Option.{option_map};
 ghost use Rattle.std.specs.List.{prefix_len, list_all};
-ghost use Rattle.og_stim.specs.Lines.{lines_of, is_blank as blank, is_skipped as skipped, begins_with, without_return as returnless};
-ghost use Rattle.og_stim.specs.Stimuli.{test_of, name_in as name_of, name_at_front as front_name, is_truth_word as truth_word, begins_with_letter as with_letter};
+ghost use Rattle.og_value.specs.Bytes.{is_blank as blank};
+ghost use Rattle.og_stim.specs.Lines.{lines_of, test_of, is_skipped as skipped, begins_with, without_return as returnless};
 
 /// A line without its end, and how many bytes of the text it takes with its end.
 #[derive(Clone, Copy)]
@@ -30,12 +29,11 @@ pub fn first_line(text: &[u8]) -> Line<'_>
     }
 }
 
-/// What a byte may be: anything but LF, white space in a line, or a part of a name.
+/// What a byte may be: anything but LF, or white space in a line.
 #[derive(Clone, Copy)]
 enum Class {
     Line,
     Blank,
-    Word,
 }
 
 /// How many bytes of the class stand in front.
@@ -56,7 +54,6 @@ fn is_in(class: Class, byte: u8) -> bool
     match class {
         Class::Line => byte != 10,
         Class::Blank => byte == 32 || byte == 9,
-        Class::Word => byte.is_ascii_alphanumeric() || byte == b'_',
     }
 }
 
@@ -87,42 +84,9 @@ fn begins_with_hash(line: &[u8]) -> bool
     }
 }
 
-fn is_all_blank(bytes: &[u8]) -> bool
+/// Nothing but blanks stands in the bytes.
+pub fn is_all_blank(bytes: &[u8]) -> bool
     ensures { result ≡ list_all blank bytes.now }
 {
     run_len(Class::Blank, bytes) == bytes.len()
-}
-
-/// The name that is all of the line but blanks around it.
-pub fn name_in(line: &[u8]) -> Option<&[u8]>
-    ensures { option_map (λ name. name.now) result ≡ name_of line.now }
-{
-    let (_, body) = line.split_at(run_len(Class::Blank, line));
-    name_at_front(body)
-}
-
-fn name_at_front(bytes: &[u8]) -> Option<&[u8]>
-    ensures { option_map (λ name. name.now) result ≡ front_name bytes.now }
-{
-    let (name, behind) = bytes.split_at(run_len(Class::Word, bytes));
-    if begins_with_letter(bytes) && !is_truth_word(name) && is_all_blank(behind) {
-        return Some(name);
-    }
-    None
-}
-
-/// TRUE and FALSE in capitals, which are no names.
-fn is_truth_word(word: &[u8]) -> bool
-    ensures { result ≡ truth_word word.now }
-{
-    word == b"TRUE".as_slice() || word == b"FALSE".as_slice()
-}
-
-fn begins_with_letter(bytes: &[u8]) -> bool
-    ensures { result ≡ with_letter bytes.now }
-{
-    match bytes {
-        [] => false,
-        [first, ..] => first.is_ascii_alphabetic(),
-    }
 }

@@ -1,16 +1,18 @@
 //! The lines of a trace.
-ghost use Rattle.std.specs.Prelude.{◌≡◌, ◌++◌, [], IfOk, OnOk, decimal, slice_get};
+ghost use Rattle.std.specs.Prelude.{◌≡◌, ◌++◌, IfOk, OnOk, codes, decimal, slice_get};
 ghost use Rattle.std.specs.List.{flat_map};
-ghost use Rattle.og_stim.specs.Trace.{HasNoValues, end_lines, end_of, rest_lines, leaf_path, path_of, dotted, state_line, leaf_line, timer_line, timer_if, timer_lines, kind_text, stuck_text, stuck_line, fault_line, file_text, name_of, signal_name, timer_name, stimulus_text, stimulus_line, number_text, event_text, event_line, event_of};
+ghost use Rattle.og_value.specs.Shows.{separated, comma_before};
+ghost use Rattle.og_stim.specs.Trace.{end_lines, end_of, rest_lines, lines_of_process, leaf_path, path_of, dotted, state_line, leaf_line, var_line, var_lines, timer_line, timer_if, timer_lines, kind_text, stuck_text, stuck_line, fault_line, file_text, name_of, signal_name, timer_name, value_texts, arguments_text, name_of_stimulus, stimulus_text, stimulus_line, number_text, event_text, event_line, event_of};
 
-use crate::stimuli::Stimulus;
+use crate::stimuli::{Stimulus, sorts_of};
 use itoa::Buffer;
 use og_base::Place;
-use og_model::{FaultKind, Model, Region, StimId, StuckRule};
+use og_model::{FaultKind, Model, Region, StimId, StuckRule, Variable};
 use og_names::{NameId, NoMemory, Word};
 use og_regions::Regions;
-use og_types::Value;
-use sqlite_items::Items;
+use og_types::{TypeId, Value};
+use og_value::write_value;
+use sqlite_items::{Items, at};
 use std::alloc::Global;
 
 /// An event: an output with its values, or a timer that is set, with its duration, or reset.
@@ -51,27 +53,25 @@ pub enum TraceEnd {
     },
 }
 
-/// Appends the line of a stimulus, or of the start. Until data is read a stimulus has no values.
+/// Appends the line of a stimulus with its values, or of the start.
 pub fn show_stimulus(model: &Model, stimulus: &Stimulus, out: &mut Vec<u8>) -> Result<(), NoMemory>
-    requires { stimulus.now.values ≡ [] }
-    ensures { OnOk result (out.new.items ≡ out.old.items ++ stimulus_line model.now stimulus.now.id) }
+    ensures { OnOk result (out.new.items ≡ out.old.items ++ stimulus_line model.now stimulus.now) }
 {
     put(out, b"> ")?;
-    put_stimulus(model, stimulus.id, out)?;
+    put_stimulus(model, stimulus, out)?;
     put(out, b"\n")
 }
 
-/// Appends the line of an event. Until data is read an output has no values.
+/// Appends the line of an event, an output with its values.
 pub fn show_event(model: &Model, event: &Happening, out: &mut Vec<u8>) -> Result<(), NoMemory>
-    requires { HasNoValues event.now }
     ensures { OnOk result (out.new.items ≡ out.old.items ++ event_line model.now (event_of event.now)) }
 {
     put_event(model, event, out)?;
     put(out, b"\n")
 }
 
-/// Appends the lines of how a run has ended, over a model without variables. The regions are those of the model, and the files are the words
-/// that its places count.
+/// Appends the lines of how a run has ended. The regions are those of the model, and the files are the words that its places
+/// count.
 pub fn show_end(
     alloc: Global,
     model: &Model,
@@ -80,23 +80,27 @@ pub fn show_end(
     end: &TraceEnd,
     out: &mut Vec<u8>,
 ) -> Result<(), NoMemory>
-    requires { model.now.variables ≡ [] }
     ensures { OnOk result (out.new.items ≡ out.old.items ++ end_lines model.now files.now (end_of regions.now.list end.now)) }
 {
     match end {
-        TraceEnd::Rest { leaves, timers, .. } => {
-            put_rest(alloc, model, regions, leaves, timers, out)
-        }
+        TraceEnd::Rest {
+            leaves,
+            values,
+            timers,
+        } => put_rest(alloc, model, regions, leaves, values, timers, out),
         TraceEnd::Fault {
             kind,
             place,
+            values,
             timers,
-            ..
         } => {
             put_fault(files, *kind, *place, out)?;
-            put_timers(model, model.timers.as_slice(), timers.as_slice(), out)
+            put_process(model, values, timers, out)
         }
-        TraceEnd::Stopped { .. } => put(out, b"stopped\n"),
+        TraceEnd::Stopped { values } => {
+            put(out, b"stopped\n")?;
+            put_variables(model, model.variables.as_slice(), values.as_slice(), out)
+        }
         TraceEnd::Past => put(out, b"past\n"),
         TraceEnd::Stuck { rule } => put_stuck(*rule, out),
     }
@@ -107,10 +111,11 @@ fn put_rest(
     model: &Model,
     regions: &Regions,
     leaves: &Items<ActiveLeaf>,
+    values: &Items<Value>,
     timers: &Items<bool>,
     out: &mut Vec<u8>,
 ) -> Result<(), NoMemory>
-    ensures { OnOk result (out.new.items ≡ out.old.items ++ rest_lines model.now regions.now.list leaves.now timers.now) }
+    ensures { OnOk result (out.new.items ≡ out.old.items ++ rest_lines model.now regions.now.list leaves.now values.now timers.now) }
 {
     put(out, b"rest\n")?;
     put_leaves(
@@ -120,7 +125,53 @@ fn put_rest(
         leaves.as_slice(),
         out,
     )?;
+    put_process(model, values, timers, out)
+}
+
+/// Appends the lines of the variables and of the active timers.
+fn put_process(
+    model: &Model,
+    values: &Items<Value>,
+    timers: &Items<bool>,
+    out: &mut Vec<u8>,
+) -> Result<(), NoMemory>
+    ensures { OnOk result (out.new.items ≡ out.old.items ++ lines_of_process model.now values.now timers.now) }
+{
+    put_variables(model, model.variables.as_slice(), values.as_slice(), out)?;
     put_timers(model, model.timers.as_slice(), timers.as_slice(), out)
+}
+
+/// Appends a line for each variable that has a value.
+fn put_variables(
+    model: &Model,
+    variables: &[Variable],
+    values: &[Value],
+    out: &mut Vec<u8>,
+) -> Result<(), NoMemory>
+    ensures { OnOk result (out.new.items ≡ out.old.items ++ var_lines model.now variables.now values.now) }
+{
+    for (place, variable) in variables.iter().enumerate() {
+        let Some(value) = at(values, place) else {
+            return Ok(());
+        };
+        put_variable(model, variable, value, out)?;
+    }
+    Ok(())
+}
+
+fn put_variable(
+    model: &Model,
+    variable: &Variable,
+    value: &Value,
+    out: &mut Vec<u8>,
+) -> Result<(), NoMemory>
+    ensures { OnOk result (out.new.items ≡ out.old.items ++ var_line model.now variable.now value.now) }
+{
+    put(out, b"var ")?;
+    put_name(model, variable.name, out)?;
+    put(out, b" = ")?;
+    write_value(&model.types, &model.names, variable.sort, value, out)?;
+    put(out, b"\n")
 }
 
 fn put_leaves(
@@ -301,9 +352,11 @@ fn put_event(model: &Model, event: &Happening, out: &mut Vec<u8>) -> Result<(), 
     ensures { OnOk result (out.new.items ≡ out.old.items ++ event_text model.now (event_of event.now)) }
 {
     match event {
-        Happening::Output { signal, .. } => {
+        Happening::Output { signal, values } => {
             put(out, b"output ")?;
-            put_signal(model, *signal, out)
+            put_signal(model, *signal, out)?;
+            let sorts = sorts_of(model, StimId::Signal(*signal));
+            put_arguments(model, sorts, values.as_slice(), out)
         }
         Happening::Set { timer, duration } => {
             put(out, b"set ")?;
@@ -319,8 +372,76 @@ fn put_event(model: &Model, event: &Happening, out: &mut Vec<u8>) -> Result<(), 
     }
 }
 
-fn put_stimulus(model: &Model, id: StimId, out: &mut Vec<u8>) -> Result<(), NoMemory>
-    ensures { OnOk result (out.new.items ≡ out.old.items ++ stimulus_text model.now id) }
+fn put_stimulus(model: &Model, stimulus: &Stimulus, out: &mut Vec<u8>) -> Result<(), NoMemory>
+    ensures { OnOk result (out.new.items ≡ out.old.items ++ stimulus_text model.now stimulus.now) }
+{
+    put_stimulus_name(model, stimulus.id, out)?;
+    let sorts = sorts_of(model, stimulus.id);
+    put_arguments(model, sorts, stimulus.values.as_slice(), out)
+}
+
+/// Appends values in brackets, where there are any.
+fn put_arguments(
+    model: &Model,
+    sorts: &[TypeId],
+    values: &[Value],
+    out: &mut Vec<u8>,
+) -> Result<(), NoMemory>
+    ensures { OnOk result (out.new.items ≡ out.old.items ++ arguments_text model.now sorts.now values.now) }
+{
+    if sorts.is_empty() {
+        return Ok(());
+    }
+    if values.is_empty() {
+        return Ok(());
+    }
+    put_bracketed(model, sorts, values, out)
+}
+
+fn put_bracketed(
+    model: &Model,
+    sorts: &[TypeId],
+    values: &[Value],
+    out: &mut Vec<u8>,
+) -> Result<(), NoMemory>
+    ensures { OnOk result (out.new.items ≡ out.old.items ++ (codes "(" ++ separated (value_texts model.now sorts.now values.now) ++ codes ")")) }
+{
+    put(out, b"(")?;
+    put_values(model, sorts, values, out)?;
+    put(out, b")")
+}
+
+/// Appends values, as many as there are types, with a comma between two.
+fn put_values(
+    model: &Model,
+    sorts: &[TypeId],
+    values: &[Value],
+    out: &mut Vec<u8>,
+) -> Result<(), NoMemory>
+    ensures { OnOk result (out.new.items ≡ out.old.items ++ separated (value_texts model.now sorts.now values.now)) }
+{
+    for (place, sort) in sorts.iter().enumerate() {
+        let Some(value) = at(values, place) else {
+            return Ok(());
+        };
+        put_comma(place, out)?;
+        write_value(&model.types, &model.names, *sort, value, out)?;
+    }
+    Ok(())
+}
+
+/// What stands before the value that comes after so many others.
+fn put_comma(before: usize, out: &mut Vec<u8>) -> Result<(), NoMemory>
+    ensures { OnOk result (out.new.items ≡ out.old.items ++ comma_before before) }
+{
+    if before == 0 {
+        return Ok(());
+    }
+    put(out, b", ")
+}
+
+fn put_stimulus_name(model: &Model, id: StimId, out: &mut Vec<u8>) -> Result<(), NoMemory>
+    ensures { OnOk result (out.new.items ≡ out.old.items ++ name_of_stimulus model.now id) }
 {
     match id {
         StimId::Start => put(out, b"start"),

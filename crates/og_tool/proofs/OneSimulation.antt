@@ -7,7 +7,6 @@ use Rattle.og_base.specs.Store.{Files}
 use Rattle.og_front.specs.declared.syntax.SystemText.{SystemText}
 use Rattle.og_front.specs.ModelOf.{model_of_tree}
 use Rattle.og_model.specs.declared.Model.{Model}
-use Rattle.og_model.specs.declared.StimId.TheVariants.{Start}
 use Rattle.og_model.specs.Forms.{UsesBasicStatesOnly}
 use Rattle.og_model.specs.Run.{sdl}
 use Rattle.og_model.specs.Shown.{Event, Shown, End, Rest, Fault, Stopped, Past, Stuck, Stimulus, is_past, has_past}
@@ -19,7 +18,7 @@ use Rattle.og_csubset.specs.Kinds.{first_globals}
 use Rattle.og_csubset.specs.Run.{Machine, goes_on, shown_by, runs, all_stimuli, c_machine, c}
 use Rattle.og_trace.specs.declared.Outcome.{Outcome}
 use Rattle.og_trace.specs.declared.Outcome.TheVariants as outcome
-use Rattle.og_trace.specs.Stims.{BadLine, stims_of, given}
+use Rattle.og_trace.specs.Stims.{BadLine, stims_of, start, given}
 use Rattle.og_trace.specs.Traces.{trace_of, outcome_by, outcome_of, at_file_end, line_if_bad, run_outcome, run_text, shown_over_file}
 use Rattle.og_tool.specs.declared.status.Status.{Status}
 use Rattle.og_tool.specs.declared.status.Status.TheVariants as status
@@ -113,7 +112,7 @@ module _ (laws : RunLaws) (M : Model) (basic : UsesBasicStatesOnly M) (P Q : CPr
       let same = same_over_file x.bytes steps (λ e. p (x.ends ∙ ap status_of e)) (λ e. q (ends ∙ ap status_of e)) in (
         x.ends ∙ ap (λ shown. status_of (outcome_of (at_file_end bad) shown)) same ∙ sym ends,
         x.is
-            ∙ ap (λ shown. trace_of M (map as_word names) (Start ∷ (stims_of M x.bytes).list) shown ++ line_if_bad (outcome_of (at_file_end bad) shown) stimuli bad) same
+            ∙ ap (λ shown. trace_of M (map as_word names) (start ∷ (stims_of M x.bytes).list) shown ++ line_if_bad (outcome_of (at_file_end bad) shown) stimuli bad) same
             ∙ sym is,
       )
 

@@ -1,4 +1,5 @@
 pub mod Lines
+pub mod Inputs
 pub mod Steps
 pub mod Rests
 pub mod Shows

@@ -18,7 +18,7 @@ use Rattle.og_model.specs.declared.StateKind.TheOpen.{Basic, Composite, Aggregat
 use Rattle.og_model.specs.declared.Scope.{Scope, out-Scope, size-Scope}
 use Rattle.og_model.specs.Configuration.{Kind}
 use Rattle.og_model.specs.Regions.{Insides, region_under, kind_insides, states_insides, insides_within, insides_of, regions}
-use Rattle.og_model.specs.Forms.{UsesBasicStatesOnly, is_basic, is_plain_state}
+use Rattle.og_model.specs.Forms.{is_basic, is_plain_state}
 use Rattle.og_model.specs.Shown as shown
 use Rattle.og_model.specs.Shown.{End}
 use Rattle.og_ir.specs.Cells.{◌>>=◌, Cells}
@@ -30,7 +30,7 @@ use Rattle.og_csubset.specs.Reads.{Globals, number_named, active_path, paths_in,
 use Rattle.og_cstep.specs.declared.Advance.{Advance}
 use Rattle.og_cstep.specs.Answered.{answer_at_end}
 use Rattle.og_cstep.specs.Machines.{Run, active_leaf, leaf_of, globals_of}
-use Rattle.og_stim.specs.Trace.{path_of, path_in, leaf_path, line, state_line, timer_lines, end_lines, fault_line}
+use Rattle.og_stim.specs.Trace.{path_of, path_in, leaf_path, line, state_line, var_lines, timer_lines, lines_of_process, end_lines, fault_line}
 use Rattle.og_trace.specs.Entries.{end_at, HasCells}
 use Rattle.og_trace.specs.Leaves.{if_basic, leaf_in, leaves_from, end_seen}
 use Rattle.og_names.proofs.Truths.{both_first as left_of, both_second as right_of}
@@ -144,20 +144,26 @@ leaves_are run all (region ∷ rs) k whole at paths is =
 
 -- ---- the lines of an end
 
-no_timer_lines : (M : Model) → M.timers ≡ [] → (active other : List Bool) → timer_lines M M.timers active ≡ timer_lines M M.timers other
-no_timer_lines M none active other = ap (λ ts. timer_lines M ts active) none ∙ sym (ap (λ ts. timer_lines M ts other) none)
+no_variable_lines : (M : Model) → M.variables ≡ [] → (values other : List Value) → var_lines M M.variables values ≡ var_lines M M.variables other
+no_variable_lines M none values other = ap (λ xs. var_lines M xs values) none ∙ sym (ap (λ xs. var_lines M xs other) none)
 
-seen_by_end : (M : Model) (files : List Word) (run : Run) (all : List Region) → M.timers ≡ [] → (e : End)
+no_lines : (M : Model) → M.timers ≡ [] → M.variables ≡ [] → (values other : List Value) (active others : List Bool)
+    → lines_of_process M values active ≡ lines_of_process M other others
+no_lines M none no_variables values other active others =
+    ap (λ bytes. bytes ++ timer_lines M M.timers active) (no_variable_lines M no_variables values other)
+    ∙ ap (λ bytes. var_lines M M.variables other ++ bytes) (ap (λ ts. timer_lines M ts active) none ∙ sym (ap (λ ts. timer_lines M ts others) none))
+
+seen_by_end : (M : Model) (files : List Word) (run : Run) (all : List Region) → M.timers ≡ [] → M.variables ≡ [] → (e : End)
     → ((paths : List (List NameId)) (variables : List Value) (timers : List Bool) → e ≡ shown.Rest paths variables timers → map (path_of all) (leaves_from run 0 all) ≡ paths)
     → end_lines M files (end_seen run all (answer_at_end e)) ≡ end_lines M files e
-seen_by_end M files run all none (shown.Rest paths variables timers) rests =
+seen_by_end M files run all none no_variables (shown.Rest paths variables timers) rests =
     ap (λ ps. end_lines M files (shown.Rest ps [] [])) (rests paths variables timers refl)
-    ∙ ap (λ bytes. line (codes "rest") ++ flat_map (state_line M) paths ++ bytes) (no_timer_lines M none [] timers)
-seen_by_end M files run all none (shown.Fault kind place variables timers) rests =
-    ap (λ bytes. fault_line files kind place ++ bytes) (no_timer_lines M none [] timers)
-seen_by_end M files run all none (shown.Stopped variables) rests = refl
-seen_by_end M files run all none shown.Past rests = refl
-seen_by_end M files run all none (shown.Stuck rule) rests = refl
+    ∙ ap (λ bytes. line (codes "rest") ++ flat_map (state_line M) paths ++ bytes) (no_lines M none no_variables [] variables [] timers)
+seen_by_end M files run all none no_variables (shown.Fault kind place variables timers) rests =
+    ap (λ bytes. fault_line files kind place ++ bytes) (no_lines M none no_variables [] variables [] timers)
+seen_by_end M files run all none no_variables (shown.Stopped variables) rests = ap (λ bytes. line (codes "stopped") ++ bytes) (no_variable_lines M no_variables [] variables)
+seen_by_end M files run all none no_variables shown.Past rests = refl
+seen_by_end M files run all none no_variables (shown.Stuck rule) rests = refl
 
 -- a run that is over, and has these cells
 rest_of_run : (run : Run) (all : List Region) → all ≡ regions run.model → (names : List (List ℕ)) → names ≡ (globals_of run).names → (config : Config) → HasCells config run.cells
@@ -173,12 +179,12 @@ rest_of_run run all whole names named (Over globals) cells paths variables timer
     ∙ ap (λ cs. paths_in run.model (record { names = names; cells = cs }) all) cells
     ∙ ap (paths_in run.model (record { names = names; cells = globals })) whole ∙ read)
 
-pub seen_lines : (M : Model) (files : List Word) (run : Run) (all : List Region) (answer : Advance) → run.model ≡ M → all ≡ regions M → M.timers ≡ []
+pub seen_lines : (M : Model) (files : List Word) (run : Run) (all : List Region) (answer : Advance) → run.model ≡ M → all ≡ regions M → M.timers ≡ [] → M.variables ≡ []
     → HasCells run.config run.cells → answer ≡ answer_at_end (end_at (end_of M (globals_of run).names) run.config)
     → end_lines M files (end_seen run all answer) ≡ end_lines M files (end_at (end_of M (globals_of run).names) run.config)
-seen_lines M files run all answer same whole none cells is =
+seen_lines M files run all answer same whole none no_variables cells is =
     ap (λ a. end_lines M files (end_seen run all a)) is
-    ∙ seen_by_end M files run all none (end_at (end_of M (globals_of run).names) run.config)
+    ∙ seen_by_end M files run all none no_variables (end_at (end_of M (globals_of run).names) run.config)
     (λ paths variables timers e. rest_of_run run all (whole ∙ ap regions (sym same)) (globals_of run).names refl run.config cells paths variables timers
     (ap (λ (m : Model). end_at (end_of m (globals_of run).names) run.config) same ∙ e))
 
@@ -199,6 +205,6 @@ scope_regions : (depth : ℕ) (m : Scope) → list_all is_plain_state (out-Scope
 scope_regions zero m all = refl
 scope_regions (suc depth) m all = states_regions (insides_within depth) (out-Scope m).states all
 
-pub one_region : (M : Model) → UsesBasicStatesOnly M → (rs : List Region) → rs ≡ regions M → length rs ≡ 1
-one_region M basic rs whole =
-    ap length (whole ∙ ap (λ (xs : List Region). record { path = []; leaves = (insides_of M.root).leaves } ∷ xs) (scope_regions (size-Scope M.root) M.root basic.states))
+pub one_region : (M : Model) → list_all is_plain_state (out-Scope M.root).states ≡ true → (rs : List Region) → rs ≡ regions M → length rs ≡ 1
+one_region M states rs whole =
+    ap length (whole ∙ ap (λ (xs : List Region). record { path = []; leaves = (insides_of M.root).leaves } ∷ xs) (scope_regions (size-Scope M.root) M.root states))

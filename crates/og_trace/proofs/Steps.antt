@@ -1,17 +1,15 @@
 -- Statements one after the other: what one of them shows, what is still shown behind it, and where a run has ended.
-use Rattle.std.proofs.Common.{◌≡◌, ℕ, zero, suc, ℤ, pos, ◌++◌, List, [], ◌∷◌, Bool, true, false, if◌then◌else◌, Option, Some, None, Result, Ok, Err, slice_get, refl, sym, ap, subst, ◌∙◌}
-use Rattle.std.specs.Prelude.{codes, unwrap_or}
-use Rattle.std.specs.List.{flat_map, list_all}
+use Rattle.std.proofs.Common.{◌≡◌, ℕ, zero, suc, ◌+◌, ℤ, pos, ◌++◌, List, [], ◌∷◌, Bool, true, false, if◌then◌else◌, Option, Some, None, Result, Ok, Err, slice_get, refl, sym, ap, subst, ◌∙◌, arith}
+use Rattle.std.specs.Prelude.{codes, decimal, unwrap_or}
+use Rattle.std.specs.List.{flat_map}
 use Rattle.std.proofs.lemmas.List.{append_assoc, append-nil}
 use Rattle.std.proofs.lemmas.Grind.{flat_map-append}
 use Rattle.og_ir.proofs.Runs.{exec_stays}
-use Rattle.og_types.specs.Table.{is_empty}
 use Rattle.og_types.specs.declared.TypeId.{TypeId}
+use Rattle.og_types.specs.declared.Value.{Value as Val}
 use Rattle.og_model.specs.declared.Model.{Model}
-use Rattle.og_model.specs.declared.Signal.{Signal}
 use Rattle.og_model.specs.declared.EventId.{EventId}
 use Rattle.og_model.specs.declared.EventId.TheVariants as event
-use Rattle.og_model.specs.Forms.{UsesBasicStatesOnly}
 use Rattle.og_model.specs.Shown as shown
 use Rattle.og_model.specs.Shown.{Event, End}
 use Rattle.og_ir.specs.Arithmetic.{Trouble, Value, or_else}
@@ -20,21 +18,22 @@ use Rattle.og_ir.specs.Steps.{Config, Running, Over, Broken, Frame, Ran, quiet, 
 use Rattle.og_csubset.specs.declared.CProgram.{CProgram}
 use Rattle.og_csubset.specs.declared.CStmt.{CStmt}
 use Rattle.og_csubset.specs.declared.CStmt.TheVariants as statement
-use Rattle.og_csubset.specs.Interface.{outputs_of, duration_of, parameters_from, signal_name, sorts_of, events_of}
+use Rattle.og_csubset.specs.Interface.{Field, Typed, outputs_of, duration_of, parameters_from, signal_name, sorts_of, events_of}
 use Rattle.og_csubset.specs.Kinds.{is_in, event_names, function_names, global_names, place_in}
-use Rattle.og_csubset.specs.Reads.{Globals, duration_in, values_of, event_shown, event_named, event_of, end_of}
+use Rattle.og_csubset.specs.Reads.{Globals, duration_in, value_of_field, values_of, event_shown, event_named, event_of, end_of}
 use Rattle.og_csubset.specs.Step.{act, fetched, cstep, gone, call, spot_of, assigned, holds, value_of, case_of, label_in}
 use Rattle.og_csubset.specs.declared.CExpr.{out-CExpr}
 use Rattle.og_cstep.specs.declared.Advance.{Advance}
 use Rattle.og_cstep.specs.declared.Advance.TheVariants as advance
 use Rattle.og_cstep.specs.Answered.{id_of, answer_by, answer_at_end}
-use Rattle.og_cstep.specs.Machines.{Run, advanced, answer_of, next_step, globals_of}
+use Rattle.og_cstep.specs.Machines.{Run, argument_in, advanced, answer_of, next_step, globals_of}
 use Rattle.og_cstatement.specs.Links.{cells_after}
+use Rattle.og_stim.specs.Stimuli.{signal_sorts}
 use Rattle.og_stim.specs.Trace.{Bytes, event_line}
 use Rattle.og_csubset.specs.Run.{c_machine}
-use Rattle.og_trace.specs.Entries.{event_seen, answer_lines, end_at, is_end, IsLive, HasCells, IsLast, StandsAt}
+use Rattle.og_trace.specs.Entries.{value_list, arguments_from, event_seen, answer_lines, end_at, is_end, IsLive, HasCells, IsLast, StandsAt}
 use Rattle.og_trace.proofs.Rests.{IsRead, end_is_read}
-use Rattle.og_names.proofs.Truths.{both_first as left_of, both_second as right_of}
+use Rattle.og_trace.proofs.Lines.{same_sorts}
 
 -- ---- what one statement shows
 
@@ -105,45 +104,69 @@ step_shows shows program (Broken trouble) = Nothing refl
 
 -- ---- the event of an answer
 
-empty : {A : Type 0} (xs : List A) → is_empty xs ≡ true → xs ≡ []
-empty [] is = refl
-empty (x ∷ xs) is = absurd (cc)
+-- the values of an output are those that its arguments hold
+module _ (run : Run) (k : ℕ) where
+  abbrev held : Field → Option Val
+  held = value_of_field run.model (globals_of run)
 
-no_sorts : (signals : List Signal) → list_all (λ (s : Signal). is_empty s.sorts) signals ≡ true → (k : ℕ) → sorts_of (slice_get signals k) ≡ []
-no_sorts [] all k = refl
-no_sorts (s ∷ signals) all zero = empty s.sorts (left_of _ _ all)
-no_sorts (s ∷ signals) all (suc k) = no_sorts signals (right_of _ _ all) k
+  arguments_are : (prefix : List ℕ) (types : List TypeId) (n i : ℕ) (vs : List Val)
+      → ((j : ℕ) → slice_get (outputs_of run.model k) (i + j) ≡ slice_get (parameters_from n prefix types) j)
+      → values_of run.model (globals_of run) (parameters_from n prefix types) ≡ Some vs → arguments_from run k i types ≡ vs
+  arguments_are prefix [] n i vs at is = cc
+  arguments_are prefix (t ∷ types) n i vs at is =
+      by (held field) (values_of run.model (globals_of run) (parameters_from (n + 1) prefix types)) refl
+      (λ us. arguments_are prefix types (n + 1) (i + 1) us (λ j. let more : i + 1 + j ≡ i + suc j = omega arith in ap (slice_get (outputs_of run.model k)) more ∙ at (suc j)))
+      is
+    where
+      field : Field
+      field = record { name = prefix ++ codes "__" ++ decimal n; shape = Typed t }
 
-no_outputs : (M : Model) → UsesBasicStatesOnly M → (k : ℕ) → outputs_of M k ≡ []
-no_outputs M basic k = ap (λ (ts : List TypeId). parameters_from 1 (codes "o_" ++ signal_name M k) ts) (no_sorts M.signals basic.no_parameters k)
+      here : slice_get (outputs_of run.model k) i ≡ Some field
+      here = let none : i ≡ i + 0 = omega arith in ap (slice_get (outputs_of run.model k)) none ∙ at 0
+
+      by : (o : Option Val) (p : Option (List Val)) → held field ≡ o → ((us : List Val) → p ≡ Some us → arguments_from run k (i + 1) types ≡ us)
+          → (o >>= λ v. p >>= λ us. Some (v ∷ us)) ≡ Some vs → value_list (argument_in run k i) ++ arguments_from run k (i + 1) types ≡ vs
+      by None p one later told = absurd (cc)
+      by (Some v) None one later told = absurd (cc)
+      by (Some v) (Some us) one later told =
+          let same : v ∷ us ≡ vs = cc in
+          ap (λ o. value_list (o >>= held) ++ arguments_from run k (i + 1) types) here
+          ∙ ap (λ o. value_list o ++ arguments_from run k (i + 1) types) one
+          ∙ ap (λ ws. v ∷ ws) (later us refl) ∙ same
+
+  arguments_seen : (vs : List Val) → values_of run.model (globals_of run) (outputs_of run.model k) ≡ Some vs → arguments_from run k 0 (signal_sorts run.model k) ≡ vs
+  arguments_seen vs is =
+      ap (arguments_from run k 0) (same_sorts (slice_get run.model.signals k))
+      ∙ arguments_are (codes "o_" ++ signal_name run.model k) (sorts_of (slice_get run.model.signals k)) 1 0 vs
+      (λ j. let none : 0 + j ≡ j = omega arith in ap (slice_get (outputs_of run.model k)) none) is
 
 -- what an event shows of the globals is what its answer tells
-shown_is_seen : (M : Model) → UsesBasicStatesOnly M → (run : Run) → run.model ≡ M → (i : EventId) (e : Event) → event_shown M (globals_of run) i ≡ Some e
-    → event_seen run (id_of e) ≡ e
-shown_is_seen M basic run same (event.Output k) e is =
-    let told : Some (shown.Output k []) ≡ Some e = ap (λ fields. values_of M (globals_of run) fields >>= λ vs. Some (shown.Output k vs)) (sym (no_outputs M basic k)) ∙ is in
-    let it : shown.Output k [] ≡ e = cc in
-    subst (λ x. event_seen run (id_of x) ≡ x) it refl
-shown_is_seen M basic run same (event.Set k) e is = by (duration_in (globals_of run) (duration_of M k)) refl is
+shown_is_seen : (run : Run) (i : EventId) (e : Event) → event_shown run.model (globals_of run) i ≡ Some e → event_seen run (id_of e) ≡ e
+shown_is_seen run (event.Output k) e is = by (values_of run.model (globals_of run) (outputs_of run.model k)) refl is
   where
-    by : (o : Option ℤ) → duration_in (globals_of run) (duration_of M k) ≡ o → (o >>= λ d. Some (shown.Set k d)) ≡ Some e → event_seen run (id_of e) ≡ e
+    by : (o : Option (List Val)) → values_of run.model (globals_of run) (outputs_of run.model k) ≡ o → (o >>= λ vs. Some (shown.Output k vs)) ≡ Some e → event_seen run (id_of e) ≡ e
+    by None at told = absurd (cc)
+    by (Some vs) at told =
+        let it : shown.Output k vs ≡ e = cc in
+        subst (λ x. event_seen run (id_of x) ≡ x) it (ap (shown.Output k) (arguments_seen run k vs at))
+shown_is_seen run (event.Set k) e is = by (duration_in (globals_of run) (duration_of run.model k)) refl is
+  where
+    by : (o : Option ℤ) → duration_in (globals_of run) (duration_of run.model k) ≡ o → (o >>= λ d. Some (shown.Set k d)) ≡ Some e → event_seen run (id_of e) ≡ e
     by None at told = absurd (cc)
     by (Some d) at told =
         let it : shown.Set k d ≡ e = cc in
-        subst (λ x. event_seen run (id_of x) ≡ x) it
-        (ap (λ z. shown.Set k z) (ap (λ (m : Model). unwrap_or (duration_in (globals_of run) (duration_of m k)) (pos 0)) same ∙ ap (λ o. unwrap_or o (pos 0)) at))
-shown_is_seen M basic run same (event.Reset k) e is =
+        subst (λ x. event_seen run (id_of x) ≡ x) it (ap (λ o. shown.Set k (unwrap_or o (pos 0))) at)
+shown_is_seen run (event.Reset k) e is =
     let it : shown.Reset k ≡ e = cc in
     subst (λ x. event_seen run (id_of x) ≡ x) it refl
 
-named_is_seen : (M : Model) → UsesBasicStatesOnly M → (run : Run) → run.model ≡ M → (name : List ℕ) (e : Event)
-    → event_of M (globals_of run).names name run.cells ≡ Some e → event_seen run (id_of e) ≡ e
+named_is_seen : (run : Run) (name : List ℕ) (e : Event) → event_of run.model (globals_of run).names name run.cells ≡ Some e → event_seen run (id_of e) ≡ e
 unfolding event_of
-named_is_seen M basic run same name e is = by (event_named M name (events_of M)) is
+named_is_seen run name e is = by (event_named run.model name (events_of run.model)) is
   where
-    by : (o : Option EventId) → (o >>= event_shown M (globals_of run)) ≡ Some e → event_seen run (id_of e) ≡ e
+    by : (o : Option EventId) → (o >>= event_shown run.model (globals_of run)) ≡ Some e → event_seen run (id_of e) ≡ e
     by None told = absurd (cc)
-    by (Some i) told = shown_is_seen M basic run same i e told
+    by (Some i) told = shown_is_seen run i e told
 
 -- ---- the lines of one statement
 
@@ -159,9 +182,9 @@ quiet_has_no_line M run ending (Running globals frame callers) = refl
 quiet_has_no_line M run ending (Over globals) = end_has_no_line M run (ending globals)
 quiet_has_no_line M run ending (Broken trouble) = refl
 
-pub statement_lines : (M : Model) → UsesBasicStatesOnly M → (run : Run) → run.model ≡ M
+pub statement_lines : (M : Model) (run : Run)
     → answer_lines M (advanced run) (answer_of run) ≡ flat_map (event_line M) (next_step run).events
-statement_lines M basic run same = by (step_shows (event_of run.model (global_names run.program)) run.program run.config)
+statement_lines M run = by (step_shows (event_of run.model (global_names run.program)) run.program run.config)
   where
     ending : List Cells → End
     ending = end_of run.model (global_names run.program)
@@ -174,12 +197,11 @@ statement_lines M basic run same = by (step_shows (event_of run.model (global_na
     by (One name globals frame callers e one at is) =
         ap (λ es. answer_lines M (advanced run) (answer_by ending es (next_step run).config)) one
         ∙ ap (λ config. answer_lines M (advanced run) (answer_by ending (e ∷ []) config)) at
-        ∙ ap (event_line M) (named_is_seen M basic (advanced run) same name e seen)
+        ∙ ap (event_line M) (named_is_seen (advanced run) name e seen)
         ∙ sym (append-nil (event_line M e)) ∙ ap (flat_map (event_line M)) (sym one)
       where
-        seen : event_of M (global_names run.program) name (cells_after run.cells (next_step run).config) ≡ Some e
-        seen = ap (λ config. event_of M (global_names run.program) name (cells_after run.cells config)) at
-            ∙ ap (λ (m : Model). event_of m (global_names run.program) name globals) (sym same) ∙ is
+        seen : event_of run.model (global_names run.program) name (cells_after run.cells (next_step run).config) ≡ Some e
+        seen = ap (λ config. event_of run.model (global_names run.program) name (cells_after run.cells config)) at ∙ is
 
 -- ---- several statements
 

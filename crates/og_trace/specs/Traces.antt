@@ -5,17 +5,16 @@ use Rattle.std.specs.Prelude.{ℕ, List, [], ◌∷◌, ◌++◌, Option, Some, 
 use Rattle.std.specs.List.{flat_map}
 use Rattle.og_names.specs.declared.Word.{Word}
 use Rattle.og_model.specs.declared.Model.{Model}
-use Rattle.og_model.specs.declared.StimId.{StimId}
-use Rattle.og_model.specs.declared.StimId.TheVariants.{Start}
 use Rattle.og_model.specs.Shown.{End, Rest, Fault, Stopped, Past, Stuck, Shown}
 use Rattle.og_csubset.specs.declared.CProgram.{CProgram}
 use Rattle.og_csubset.specs.Run.{c}
+use Rattle.og_stim.specs.declared.stimuli.Stimulus.{Stimulus}
 use Rattle.og_stim.specs.declared.stimuli.StimRule.{StimRule}
 use Rattle.og_stim.specs.declared.stimuli.StimRule.TheVariants as rule
 use Rattle.og_stim.specs.Trace.{Bytes, line, stimulus_line, event_line, end_lines}
 use Rattle.og_trace.specs.declared.Outcome.{Outcome}
 use Rattle.og_trace.specs.declared.Outcome.TheVariants as outcome
-use Rattle.og_trace.specs.Stims.{BadLine, stims_of, given}
+use Rattle.og_trace.specs.Stims.{BadLine, stims_of, start, given}
 
 -- ---- the lines of a run
 
@@ -24,7 +23,7 @@ abbrev pub shown_lines : Model → List Word → Shown → Bytes
 shown_lines M files s = flat_map (event_line M) s.events ++ end_lines M files s.end
 
 -- each stimulus that was taken, with what it shows
-abbrev pub trace_of : Model → List Word → List StimId → List Shown → Bytes
+abbrev pub trace_of : Model → List Word → List Stimulus → List Shown → Bytes
 trace_of M files [] shown = []
 trace_of M files (x ∷ xs) [] = []
 trace_of M files (x ∷ xs) (s ∷ shown) = stimulus_line M x ++ shown_lines M files s ++ trace_of M files xs shown
@@ -51,6 +50,8 @@ at_file_end (Some bad) = outcome.BadFile
 abbrev pub rule_text : StimRule → Bytes
 rule_text rule.Q1 = codes "Q1"
 rule_text rule.Q2 = codes "Q2"
+rule_text rule.Q3 = codes "Q3"
+rule_text rule.Q4 = codes "Q4"
 rule_text rule.Q5 = codes "Q5"
 rule_text rule.Q6 = codes "Q6"
 
@@ -79,5 +80,5 @@ run_outcome M P text steps = outcome_of (at_file_end (stims_of M text).bad) (sho
 -- the model files and the file of stimuli go by their words
 abbrev pub run_text : Model → CProgram → List Word → (name text : Bytes) → ℕ → Bytes
 run_text M P files name text steps =
-    trace_of M files (Start ∷ (stims_of M text).list) (shown_over_file M P text steps)
+    trace_of M files (start ∷ (stims_of M text).list) (shown_over_file M P text steps)
     ++ line_if_bad (run_outcome M P text steps) name (stims_of M text).bad

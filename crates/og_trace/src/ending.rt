@@ -3,10 +3,9 @@ ghost use Rattle.std.specs.Prelude.{◌≡◌, ◌<◌, ◌^◌, ◌++◌, lengt
 ghost use Rattle.og_csubset.specs.Run.{c_machine};
 ghost use Rattle.og_cstep.specs.Answered.{answer_at_end};
 ghost use Rattle.og_cstep.specs.Machines.{run_of, active_leaf};
-ghost use Rattle.og_model.specs.Forms.{UsesBasicStatesOnly};
 ghost use Rattle.og_model.specs.Regions.{regions as regions_of};
 ghost use Rattle.og_stim.specs.Trace.{end_lines, end_of as end_told};
-ghost use Rattle.og_trace.specs.Entries.{end_at, HasCells};
+ghost use Rattle.og_trace.specs.Entries.{end_at, HasCells, IsPlain};
 ghost use Rattle.og_trace.specs.Leaves.{end_seen, if_basic, leaf_in, leaves_from};
 
 use og_cstep::{Advance, Machine};
@@ -29,7 +28,7 @@ pub fn show_ending(
 ) -> Result<(), NoMemory>
     requires model { (run_of machine.now).model ≡ model.now }
     requires regions { regions.now.list ≡ regions_of model.now }
-    requires basic { UsesBasicStatesOnly model.now }
+    requires plain { IsPlain model.now }
     requires answer { answer ≡ answer_at_end (end_at (c_machine (run_of machine.now).program model.now).ending (run_of machine.now).config) }
     requires over { HasCells (run_of machine.now).config (run_of machine.now).cells }
     ensures { OnOk result (out.new.items ≡ out.old.items ++ end_lines model.now files.now

@@ -3,21 +3,21 @@ ghost use Rattle.std.specs.Prelude.{◌≡◌, ◌++◌, IfOk, OnOk};
 ghost use Rattle.std.specs.List.{flat_map};
 ghost use Rattle.og_csubset.specs.Run.{c_machine};
 ghost use Rattle.og_cstep.specs.Answered.{answer_at_end};
-ghost use Rattle.og_cstep.specs.Machines.{run_of, advanced, answer_of, next_step};
+ghost use Rattle.og_cstep.specs.Machines.{run_of, advanced, answer_of, argument_in, next_step};
 ghost use Rattle.og_ir.specs.Steps.{exec};
-ghost use Rattle.og_model.specs.Forms.{UsesBasicStatesOnly};
-ghost use Rattle.og_stim.specs.Trace.{HasNoValues, event_line, event_of};
-ghost use Rattle.og_trace.specs.Entries.{answer_lines, end_at, event_seen, is_end, pause_answer, IsLive, StandsAt};
+ghost use Rattle.og_stim.specs.Trace.{event_line, event_of};
+ghost use Rattle.og_trace.specs.Entries.{answer_lines, arguments_from, value_list, end_at, event_seen, is_end, pause_answer, IsLive, StandsAt};
 
 use og_cstep::{Advance, EventId, Machine};
-use og_model::Model;
+use og_model::{Model, StimId};
 use og_names::NoMemory;
-use og_stim::{Happening, show_event};
+use og_stim::{Happening, show_event, sorts_of};
+use og_types::{TypeId, Value};
 use sqlite_items::Items;
 use std::alloc::Global;
 
 /// Carries out at most so many statements, up to the end of the run, and appends the lines of its events. The answer tells
-/// how the run has ended; `Moved` says that the statements are used up. In these models an output has no values.
+/// how the run has ended; `Moved` says that the statements are used up.
 pub fn show_events(
     alloc: Global,
     machine: &mut Machine,
@@ -26,7 +26,6 @@ pub fn show_events(
     out: &mut Vec<u8>,
 ) -> Result<Advance, NoMemory>
     requires model { (run_of machine.old).model ≡ model.now }
-    requires basic { UsesBasicStatesOnly model.now }
     requires live { IsLive (run_of machine.old).config }
     ensures events { OnOk result (out.new.items ≡ out.old.items ++ flat_map (event_line model.now)
         (exec (c_machine (run_of machine.old).program model.now).step steps (run_of machine.old).config).events) }
@@ -75,7 +74,6 @@ fn show_step(
     out: &mut Vec<u8>,
 ) -> Result<Advance, NoMemory>
     requires model { (run_of machine.old).model ≡ model.now }
-    requires basic { UsesBasicStatesOnly model.now }
     ensures run { OnOk result (run_of machine.new ≡ advanced (run_of machine.old)) }
     ensures answer { IfOk result (λ answer. answer ≡ answer_of (run_of machine.old)) }
     ensures events { OnOk result (out.new.items ≡ out.old.items ++ flat_map (event_line model.now) (next_step (run_of machine.old)).events) }
@@ -93,11 +91,12 @@ fn show_answer(
     answer: Advance,
     out: &mut Vec<u8>,
 ) -> Result<(), NoMemory>
+    requires { (run_of machine.now).model ≡ model.now }
     ensures { OnOk result (out.new.items ≡ out.old.items ++ answer_lines model.now (run_of machine.now) answer) }
 {
     match answer {
         Advance::Event(id) => {
-            let event = happening(alloc, machine, id)?;
+            let event = happening(alloc, machine, model, id)?;
             show_event(model, &event, out)
         }
         Advance::Moved
@@ -109,19 +108,63 @@ fn show_answer(
 }
 
 /// The event of this number, as a machine has just shown it.
-fn happening(alloc: Global, machine: &Machine, id: EventId) -> Result<Happening, NoMemory>
-    ensures seen { IfOk result (λ event. event_of event ≡ event_seen (run_of machine.now) id) }
-    ensures values { IfOk result HasNoValues }
+fn happening(
+    alloc: Global,
+    machine: &Machine,
+    model: &Model,
+    id: EventId,
+) -> Result<Happening, NoMemory>
+    requires { (run_of machine.now).model ≡ model.now }
+    ensures { IfOk result (λ event. event_of event ≡ event_seen (run_of machine.now) id) }
 {
     match id {
-        EventId::Output(signal) => Ok(Happening::Output {
-            signal,
-            values: Items::new(alloc),
-        }),
+        EventId::Output(signal) => {
+            let sorts = sorts_of(model, StimId::Signal(signal));
+            let values = arguments(alloc, machine, signal, sorts)?;
+            Ok(Happening::Output { signal, values })
+        }
         EventId::Set(timer) => Ok(Happening::Set {
             timer,
             duration: machine.duration(timer),
         }),
         EventId::Reset(timer) => Ok(Happening::Reset { timer }),
+    }
+}
+
+/// The values of an output's parameters, of which there are as many as types.
+fn arguments(
+    alloc: Global,
+    machine: &Machine,
+    signal: u32,
+    sorts: &[TypeId],
+) -> Result<Items<Value>, NoMemory>
+    ensures { IfOk result (λ values. values ≡ arguments_from (run_of machine.now) signal 0 sorts.now) }
+{
+    let mut values = Items::new(alloc);
+    for (place, _) in sorts.iter().enumerate() {
+        if place > u32::MAX as usize {
+            return Err(NoMemory::past_numbers(place));
+        }
+        add_argument(alloc, machine, signal, place as u32, &mut values)?;
+    }
+    Ok(values)
+}
+
+/// Adds the value of a parameter, where its cells hold one.
+fn add_argument(
+    alloc: Global,
+    machine: &Machine,
+    signal: u32,
+    parameter: u32,
+    values: &mut Items<Value>,
+) -> Result<(), NoMemory>
+    ensures { OnOk result (values.new ≡ values.old ++ value_list (argument_in (run_of machine.now) signal parameter)) }
+{
+    match machine.argument(alloc, signal, parameter)? {
+        None => Ok(()),
+        Some(value) => {
+            values.push(value)?;
+            Ok(())
+        }
     }
 }

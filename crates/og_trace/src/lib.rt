@@ -3,9 +3,9 @@
 
 ghost use Rattle.std.specs.Prelude.{◌≡◌, ◌≤◌, ◌++◌, length, unwrap_or, decimal, IfOk, OnOk};
 ghost use Rattle.std.specs.Option.{option_map};
-ghost use Rattle.og_model.specs.Forms.{UsesBasicStatesOnly};
 ghost use Rattle.og_model.specs.Regions.{regions as regions_of};
 ghost use Rattle.og_cstep.specs.Machines.{run_of, loaded as loaded_run};
+ghost use Rattle.og_trace.specs.Entries.{IsPlain};
 ghost use Rattle.og_trace.specs.Listed.{bad_of};
 ghost use Rattle.og_trace.specs.Traces.{run_text, run_outcome, at_file_end, line_if_bad, bad_line, rule_text};
 
@@ -45,7 +45,7 @@ pub struct Traced {
 }
 
 /// Runs a machine that was just loaded over a file of stimuli, with at most so many statements for the start and for each
-/// stimulus. The regions are those of the model. `files` are the words of the model files, by which places count, and `name`
+/// stimulus, over a model of basic states without timers and variables. The regions are those of the model. `files` are the words of the model files, by which places count, and `name`
 /// is the word of the file of stimuli.
 pub fn trace(
     alloc: Global,
@@ -59,11 +59,13 @@ pub fn trace(
 ) -> Result<Traced, NoMemory>
     requires loaded { run_of machine.old ≡ loaded_run (run_of machine.old).program model.now }
     requires regions { regions.now.list ≡ regions_of model.now }
-    requires basic { UsesBasicStatesOnly model.now }
+    requires plain { IsPlain model.now }
     requires few_signals { length model.now.signals ≤ 200 }
     ensures text { IfOk result (λ traced. traced.text.items ≡ run_text model.now (run_of machine.old).program files.now name.now stimuli.now steps) }
     ensures outcome { IfOk result (λ traced. traced.outcome ≡ run_outcome model.now (run_of machine.old).program stimuli.now steps) }
 {
+    // With the number of types it is said that they are a table.
+    let _ = model.types.len();
     let listed = stimuli_of(alloc, model, stimuli)?;
     let scene = Scene {
         model,
@@ -75,7 +77,7 @@ pub fn trace(
         alloc,
         machine,
         &scene,
-        listed.ids.as_slice(),
+        listed.stimuli.as_slice(),
         steps,
         &mut text,
     )?;
@@ -134,6 +136,8 @@ fn rule_word(rule: StimRule) -> &'static [u8]
     match rule {
         StimRule::Q1 => b"Q1",
         StimRule::Q2 => b"Q2",
+        StimRule::Q3 => b"Q3",
+        StimRule::Q4 => b"Q4",
         StimRule::Q5 => b"Q5",
         StimRule::Q6 => b"Q6",
     }

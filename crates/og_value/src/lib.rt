@@ -5,12 +5,12 @@ ghost use Rattle.std.specs.Prelude.{◌≡◌};
 ghost use Rattle.og_value.specs.declared.ValueError.TheVariants.{NoMemory as OutOfMemory};
 
 pub mod examples;
-mod forms;
+pub mod forms;
 pub mod laws;
 mod membership;
 mod parts;
 mod read;
-mod tokens;
+pub mod tokens;
 mod values;
 mod write;
 

@@ -36,6 +36,7 @@ fn past(class: Class, bytes: &[u8]) -> &[u8]
     rest
 }
 
+/// What stands behind the blanks in front.
 pub fn past_blanks(bytes: &[u8]) -> &[u8]
     ensures found { result.now ≡ past_blanks bytes.now }
     ensures within { length result.now ≤ length bytes.now }

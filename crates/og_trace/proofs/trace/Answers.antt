@@ -10,12 +10,12 @@ use Rattle.og_trace.proofs.trace.Goals as goal
 
 pub show_stimuli-requires-clause-stimuli : goal.show_stimuli-requires-clause-stimuli
 show_stimuli-requires-clause-stimuli c =
-    subst (AreStimuli c.args.model.now) (sym (c.as_slice.ensures.value ∙ c.in_ok-listed.ensures.ids)) (are_stimuli c.args.model.now c.args.stimuli.now)
+    subst (AreStimuli c.args.model.now) (sym (c.as_slice.ensures.value ∙ c.in_ok-listed.ensures.stimuli)) (are_stimuli c.args.model.now c.len.ensures.table c.args.stimuli.now)
 
 pub returns-clause-text : goal.returns-clause-text
 returns-clause-text c =
     let run = run_of c.args.machine.now in
-    let ids = c.as_slice.ensures.value ∙ c.in_ok-listed.ensures.ids in
+    let ids = c.as_slice.ensures.value ∙ c.in_ok-listed.ensures.stimuli in
     let first = ap (λ (r : Run). r.cells) c.requires.loaded in
     let told = c.outcome_at-outcome.ensures
     ∙ c.in_ok-ended.ensures.outcome (at_file_end (option_map bad_of c.in_ok-listed.listed.bad))
@@ -29,7 +29,7 @@ returns-clause-text c =
 pub returns-clause-outcome : goal.returns-clause-outcome
 returns-clause-outcome c =
     let run = run_of c.args.machine.now in
-    let ids = c.as_slice.ensures.value ∙ c.in_ok-listed.ensures.ids in
+    let ids = c.as_slice.ensures.value ∙ c.in_ok-listed.ensures.stimuli in
     let first = ap (λ (r : Run). r.cells) c.requires.loaded in
     c.outcome_at-outcome.ensures
     ∙ c.in_ok-ended.ensures.outcome (at_file_end (option_map bad_of c.in_ok-listed.listed.bad))

@@ -1,6 +1,6 @@
 use Rattle.std.proofs.Common.{ap, ◌∙◌}
 use Rattle.std.proofs.Common.{◌==◌, length}
-use Rattle.og_stim.specs.Lines.{is_blank}
+use Rattle.og_value.specs.Bytes.{is_blank}
 use Rattle.og_stim.proofs.Splitting.{all_pass}
 use Rattle.og_stim.proofs.lines.is_all_blank.Goals as goal
 

@@ -1,6 +1,6 @@
 use Rattle.std.proofs.Common.{◌≡◌, ◌+◌, ◌-◌, ◌≤◌, length, drop}
 use Rattle.std.specs.List.{prefix_len}
-use Rattle.og_stim.specs.Stimuli.{test_of}
+use Rattle.og_stim.specs.Lines.{test_of}
 use Rattle.og_stim.proofs.lines.run_len.Given as goal
 
 abbrev pub invariant-loop-len : goal.invariant-loop-len

@@ -7,7 +7,7 @@ use Rattle.og_trace.proofs.ending.show_ending.Goals as goal
 
 pub end_of-requires : goal.end_of-requires
 end_of-requires c =
-    let one = one_region c.args.model.now c.requires.basic c.as_slice.result.now (c.as_slice.ensures ∙ c.requires.regions) in omega (arith, one)
+    let one = one_region c.args.model.now c.requires.plain.states c.as_slice.result.now (c.as_slice.ensures ∙ c.requires.regions) in omega (arith, one)
 
 pub returns : goal.returns
 returns c =
@@ -16,4 +16,4 @@ returns c =
     (ap (λ rs. end_lines c.args.model.now c.args.files.now (end_told rs c.in_ok-end.end)) (sym c.as_slice.ensures)
     ∙ ap (end_lines c.args.model.now c.args.files.now) c.in_ok-end.ensures
     ∙ seen_lines c.args.model.now c.args.files.now (run_of c.args.machine.now) c.as_slice.result.now c.args.answer c.requires.model (c.as_slice.ensures ∙ c.requires.regions)
-    c.requires.basic.no_timers c.requires.over c.requires.answer)
+    c.requires.plain.no_timers c.requires.plain.no_variables c.requires.over c.requires.answer)

@@ -14,4 +14,4 @@ returns-clause-events c =
     ∙ ap (λ bytes. c.args.out.now.items ++ bytes)
     (ap (λ (r : Run). answer_lines c.args.model.now r c.advance-answer.result) c.advance-answer.ensures.moved
     ∙ ap (answer_lines c.args.model.now (advanced run)) answer
-    ∙ statement_lines c.args.model.now c.requires.basic run c.requires.model)
+    ∙ statement_lines c.args.model.now run)
