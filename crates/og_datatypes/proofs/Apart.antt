@@ -108,7 +108,7 @@ there names n h = by (place_of names (key n)) h
 numbers_apart : (names : List (List ℕ)) (x n : Name) → is_in names x ≡ true → is_in names n ≡ true → folds_as n x ≡ false → same_name (name_number names x) (name_number names n) ≡ false
 numbers_apart names x n hx hn other =
     false_unless (same_name (name_number names x) (name_number names n)) (λ e.
-    let same : unwrap_or (place_of names (key x)) 0 ≡ unwrap_or (place_of names (key n)) 0 = (Decides-eqb _ _).0 e in
+    let same : unwrap_or (place_of names (key x)) 0 ≡ unwrap_or (place_of names (key n)) 0 = (Decides-eqb (unwrap_or (place_of names (key x)) 0) (unwrap_or (place_of names (key n)) 0)).0 e in
     let at_x : slice_get names (unwrap_or (place_of names (key x)) 0) ≡ Some (key x) = place_leads_back names (key x) _ (there names x hx) in
     let at_n : slice_get names (unwrap_or (place_of names (key n)) 0) ≡ Some (key n) = place_leads_back names (key n) _ (there names n hn) in
     let keys : Some (key n) ≡ Some (key x) = sym at_n ∙ ap (slice_get names) (sym same) ∙ at_x in
@@ -127,9 +127,6 @@ differ_behind names earlier (n ∷ ns) h none =
     let later = none_second (repeated earlier n) (repeated_behind (earlier ++ n ∷ []) ns) none in
     both_true _ _ (not_false _ (none_numbered names n ns (both_first _ _ h) (both_second _ _ h) (apart n (earlier ++ n ∷ []) ns (last_of earlier n) later)))
     (differ_behind names (earlier ++ n ∷ []) ns (both_second _ _ h) later)
-
-names_of_parts : (parts : List PartNode) → map name_of_part parts ≡ map (λ (p : PartNode). p.name) parts
-names_of_parts parts = refl
 
 pub names_differ : (modules : List ModuleTree) (names : List (List ℕ)) → first_violation modules ≡ None → (o : Option Node) (p : ℕ) → slice_get (flat_of modules).nodes p ≡ o → list_all (is_in names) (names_at o) ≡ true
     → all_differ same_name (map (name_number names) (names_at o)) ≡ true

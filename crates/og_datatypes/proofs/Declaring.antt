@@ -132,8 +132,5 @@ known_now table name =
     ]
 
 pub all_known : (table : List (List ℕ)) (ns : List Name) → list_all (is_in (with_names table ns)) ns ≡ true
-all_known table ns = by table ns
-  where
-    by : (table : List (List ℕ)) (ns : List Name) → list_all (is_in (with_names table ns)) ns ≡ true
-    by table [] = refl
-    by table (n ∷ ns) = both_true _ _ (known_after (with_name table (key n)) ns (key n) (known_now table (key n))) (by (with_name table (key n)) ns)
+all_known table [] = refl
+all_known table (n ∷ ns) = both_true _ _ (known_after (with_name table (key n)) ns (key n) (known_now table (key n))) (all_known (with_name table (key n)) ns)

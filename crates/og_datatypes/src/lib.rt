@@ -2,6 +2,7 @@
 #![tactic(auto)]
 
 mod declared;
+pub mod examples;
 mod forms;
 mod known;
 mod limits;

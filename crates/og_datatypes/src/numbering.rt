@@ -4,6 +4,7 @@ ghost use Rattle.og_dataview.specs.View.{place_in, in_order, is_supported, type_
 ghost use Rattle.og_datatypes.specs.Kept.{number_at, AreMarked, AreNumbers, Placed};
 
 use crate::known::Known;
+use crate::order::Order;
 use og_dataview::{Scope, counted};
 use og_names::NoMemory;
 use og_types::TypeId;
@@ -30,14 +31,14 @@ impl Numbered {
         ensures { IfOk result (λ numbered. numbered.known.limited.valued.scope.flat ≡ scope.flat) }
     {
         let known = Known::new(alloc, scope)?;
-        let order = known.order(alloc)?;
+        let Order { types, supported } = known.order(alloc)?;
         let nodes = counted(known.limited.valued.scope.flat.nodes.len())?;
-        let count = counted(order.types.len())?;
-        let numbers = numbers_of(alloc, order.types.as_slice(), nodes)?;
+        let count = counted(types.len())?;
+        let numbers = numbers_of(alloc, types.as_slice(), nodes)?;
         Ok(Numbered {
             known,
-            order: order.types,
-            supported: order.supported,
+            order: types,
+            supported,
             count,
             numbers,
         })
