@@ -1,12 +1,15 @@
 -- How deep types are, and the types with which they share their numbers.
-use Rattle.std.proofs.Common.{◌≡◌, ℕ, zero, suc, ◌+◌, ◌≤◌, Bool, true, false, ◌&&◌, ◌==◌, List, length, slice_get, Option, None, refl, sym, ap, ◌∙◌, arith, eqb-true, if◌then◌else◌}
+use Rattle.std.proofs.Common.{◌≡◌, ℕ, zero, suc, ◌+◌, ◌≤◌, Bool, true, false, ◌&&◌, ◌==◌, List, [], ◌∷◌, map, length, slice_get, Option, None, refl, sym, ap, ◌∙◌, arith, eqb-true, if◌then◌else◌}
 use Rattle.std.specs.List.{list_all}
 use Rattle.og_flat.specs.declared.flat.Flat.{Flat}
 use Rattle.og_dataview.specs.Following.{walk}
-use Rattle.og_dataview.specs.View.{next_same, ended_at, same_as, has_form, is_made_of, is_within}
-use Rattle.og_dataview.proofs.Tables.{Tabulated, tabulated_none, tabulated_more, none_behind}
-use Rattle.og_datatypes.specs.Kept.{is_marked, AreMarked}
+use Rattle.og_dataview.specs.View.{node_of_part, next_same, ended_at, same_as, has_form, is_made_of, is_within}
+use Rattle.og_dataview.proofs.Tables.{Tabulated, tabulated_none, tabulated_more, none_behind, walk_same, walk_by}
+use Rattle.og_dataview.specs.Ways.{step_in, Leads}
+use Rattle.og_datatypes.specs.Kept.{is_marked, ended_in, AreMarked, AreSame}
 use Rattle.og_datatypes.proofs.Lists.{kept_are}
+use Rattle.og_names.proofs.Loops.{Left, left_first, left_more, left_stop, left_all}
+use Rattle.og_flat.specs.declared.flat.PartNode.{PartNode}
 
 either_same : {X : Type 0} (b : Bool) (x : X) → (if b then x else x) ≡ x
 either_same true x = refl
@@ -49,3 +52,25 @@ one_more flat within next n tabulated long depth marked = record {
 }
 
 pub ruleset depths = (tabulated_none, tabulated_more, one_more)
+
+-- where ways have come to
+pub sames_are : (flat : Flat) (nexts ends sames : List ℕ) (n : ℕ) → n ≡ suc (length flat.types) → ((p : ℕ) → step_in nexts p ≡ next_same flat p) → Leads (step_in nexts) n ends
+    → ((p : ℕ) → step_in sames p ≡ ended_in nexts ends p) → AreSame flat sames
+sames_are flat nexts ends sames n long next leads is = record {
+  each = λ p.
+      let e : step_in ends p ≡ way_end flat p = leads.each p ∙ walk_same (step_in nexts) (next_same flat) next n p ∙ walk_by (next_same flat) n (suc (length flat.types)) p long in
+      is p ∙ ap (λ x. if step_in nexts x == x then x else p) e ∙ ap (λ x. if x == way_end flat p then way_end flat p else p) (next (way_end flat p));
+}
+
+-- ---- a loop over parts
+
+abbrev pub all_marked : List Bool → List PartNode → Bool
+all_marked marks parts = list_all (is_marked marks) (map node_of_part parts)
+
+pub part_marked : (marks : List Bool) (p : PartNode) (ps : List PartNode) → is_marked marks p.node ≡ true → all_marked marks (p ∷ ps) ≡ all_marked marks ps
+part_marked marks p ps h = ap (λ b. b && all_marked marks ps) h
+
+pub part_unmarked : (marks : List Bool) (p : PartNode) (ps : List PartNode) → is_marked marks p.node ≡ false → all_marked marks (p ∷ ps) ≡ false
+part_unmarked marks p ps h = ap (λ b. b && all_marked marks ps) h
+
+pub ruleset loops = (left_first, left_more, left_stop, left_all, part_marked, part_unmarked)

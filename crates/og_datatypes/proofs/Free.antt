@@ -11,7 +11,7 @@ use Rattle.og_dataview.specs.Met.{AreMet}
 use Rattle.og_dataview.specs.Violations.{given, is_given}
 use Rattle.og_dataview.specs.View.{least_free, numbers_by, numbers_from, enumerator_numbers}
 use Rattle.og_datatypes.specs.Kept.{in_64_bits_or_0}
-use Rattle.og_datatypes.proofs.Numbers.{numbers_fit, long_as}
+use Rattle.og_datatypes.proofs.Distinct.{numbers_fit, long_as}
 
 -- ---- the numbers that are written
 
@@ -39,41 +39,42 @@ pub ruleset givens = (noted_first, noted_more)
 
 -- ---- the search
 
-pub record Searching (keys : List ℤ) (count from left free : ℕ) : Type 0 where
-  pub is : (numbers : List ℤ) → AreMet numbers keys → least_free numbers (count - left) free ≡ least_free numbers count from
-  pub at : free ≡ from + left
+pub record Searching (keys : List ℤ) (count from left : ℕ) : Type 0 where
+  pub is : (numbers : List ℤ) → AreMet numbers keys → least_free numbers (count - left) (from + left) ≡ least_free numbers count from
 
-pub searching_first : (keys : List ℤ) (count from : ℕ) → Searching keys count from 0 from
+pub searching_first : (keys : List ℤ) (count from : ℕ) → Searching keys count from 0
 searching_first keys count from =
     let z : count - 0 ≡ count = omega arith in
-    record { is = λ numbers met. ap (λ n. least_free numbers n from) z; at = omega arith }
+    let f : from + 0 ≡ from = omega arith in
+    record { is = λ numbers met. ap (λ n. least_free numbers n (from + 0)) z ∙ ap (least_free numbers count) f }
 
 one_step : (numbers : List ℤ) (n m free : ℕ) → n ≡ suc m → least_free numbers n free ≡ (if is_given numbers (pos free) then least_free numbers m (suc free) else free)
 one_step numbers n m free e = ap (λ k. least_free numbers k free) e
 
-pub searching_more : (keys : List ℤ) (count from left free next : ℕ) → left < count → ((numbers : List ℤ) → AreMet numbers keys → true ≡ is_given numbers (pos free)) → next ≡ free + 1
-    → Searching keys count from left free → Searching keys count from (left + 1) next
-searching_more keys count from left free next lt there e before =
+pub searching_more : (keys : List ℤ) (count from left free : ℕ) (b : Bool) → left < count → free ≡ from + left → ((numbers : List ℤ) → AreMet numbers keys → b ≡ is_given numbers (pos free)) → b ≡ true
+    → Searching keys count from left → Searching keys count from (left + 1)
+searching_more keys count from left free b lt at test there before =
     let m : count - left ≡ suc (count - (left + 1)) = omega (arith, lt) in
-    let n : next ≡ suc free = omega (arith, e) in
+    let n : from + (left + 1) ≡ suc free = omega (arith, at) in
     record {
       is = λ numbers met. ap (least_free numbers (count - (left + 1))) n
-          ∙ ap (λ b. if b then least_free numbers (count - (left + 1)) (suc free) else free) (there numbers met)
-          ∙ sym (one_step numbers (count - left) (count - (left + 1)) free m) ∙ before.is numbers met;
-      at = omega (arith, e, before.at);
+          ∙ ap (λ c. if c then least_free numbers (count - (left + 1)) (suc free) else free) (sym there ∙ test numbers met)
+          ∙ sym (one_step numbers (count - left) (count - (left + 1)) free m) ∙ ap (least_free numbers (count - left)) at ∙ before.is numbers met;
     }
 
-pub searching_found : (keys : List ℤ) (count from left free : ℕ) → left < count → ((numbers : List ℤ) → AreMet numbers keys → false ≡ is_given numbers (pos free))
-    → Searching keys count from left free → (numbers : List ℤ) → AreMet numbers keys → free ≡ least_free numbers count from
-searching_found keys count from left free lt not_there before numbers met =
+pub searching_found : (keys : List ℤ) (count from left free : ℕ) (b : Bool) → left < count → free ≡ from + left → ((numbers : List ℤ) → AreMet numbers keys → b ≡ is_given numbers (pos free)) → b ≡ false
+    → Searching keys count from left → (numbers : List ℤ) → AreMet numbers keys → free ≡ least_free numbers count from
+searching_found keys count from left free b lt at test absent before numbers met =
     let m : count - left ≡ suc (count - (left + 1)) = omega (arith, lt) in
-    ap (λ b. if b then least_free numbers (count - (left + 1)) (suc free) else free) (not_there numbers met)
-    ∙ sym (one_step numbers (count - left) (count - (left + 1)) free m) ∙ before.is numbers met
+    ap (λ c. if c then least_free numbers (count - (left + 1)) (suc free) else free) (sym absent ∙ test numbers met)
+    ∙ sym (one_step numbers (count - left) (count - (left + 1)) free m) ∙ ap (least_free numbers (count - left)) at ∙ before.is numbers met
 
-pub searching_all : (keys : List ℤ) (count from left free : ℕ) → count ≤ left → Searching keys count from left free → (numbers : List ℤ) → AreMet numbers keys → free ≡ least_free numbers count from
-searching_all keys count from left free le before numbers met =
+pub searching_all : (keys : List ℤ) (count from left free : ℕ) → count ≤ left → left ≤ count → free ≡ from + count → Searching keys count from left → (numbers : List ℤ) → AreMet numbers keys
+    → free ≡ least_free numbers count from
+searching_all keys count from left free le ge e before numbers met =
     let z : count - left ≡ 0 = omega (arith, le) in
-    ap (λ n. least_free numbers n free) (sym z) ∙ before.is numbers met
+    let f : free ≡ from + left = omega (arith, le, ge, e) in
+    f ∙ ap (λ n. least_free numbers n (from + left)) (sym z) ∙ before.is numbers met
 
 pub ruleset searching = (searching_first, searching_more, searching_found, searching_all)
 
@@ -100,15 +101,15 @@ pub numbering_first : (items : List Enumerator) → Numbering items 0 0 []
 numbering_first items = record { left = left_first (numbers_left items [] 0) items; bound = omega arith }
 
 pub numbering_more : (items : List Enumerator) (i : ℕ) (e : Enumerator) (z : ℤ) (k next count : ℕ) (old new keys : List ℤ) → i < length items → e ≡ get_or items i e
-    → AreMet (flat_map given items) keys → count ≡ length (flat_map given items) → count < 2 ^ 32
+    → AreMet (flat_map given items) keys → count ≡ length (flat_map given items)
     → ((numbers : List ℤ) → AreMet numbers keys → count ≡ length numbers → (more : ℕ → List ℤ) → numbers_by numbers k e.number more ≡ z ∷ more next)
-    → next ≤ k + count + 1 → new ≡ old ++ in_64_bits_or_0 z ∷ [] → Numbering items i k old → Numbering items (i + 1) next new
-numbering_more items i e z k next count old new keys lt at met long few number bound more before = record {
+    → next ≤ k + 2 ^ 32 → new ≡ old ++ in_64_bits_or_0 z ∷ [] → Numbering items i k old → Numbering items (i + 1) next new
+numbering_more items i e z k next count old new keys lt at met long number bound more before = record {
   left = left_more (numbers_left items old k) (numbers_left items new next) items i e _ lt at
       (λ es. ap (λ zs. old ++ map in_64_bits_or_0 zs) (number (flat_map given items) met long (λ n. numbers_from (flat_map given items) n es))
       ∙ sym (append_assoc old (in_64_bits_or_0 z ∷ []) (map in_64_bits_or_0 (numbers_from (flat_map given items) next es)))
       ∙ ap (λ zs. zs ++ map in_64_bits_or_0 (numbers_from (flat_map given items) next es)) (sym more)) before.left;
-  bound = omega (arith, bound, few, before.bound);
+  bound = omega (arith, bound, before.bound);
 }
 
 pub numbering_all : (items : List Enumerator) (i k : ℕ) (so_far : List ℤ) → length items ≤ i → Numbering items i k so_far → so_far ≡ map in_64_bits_or_0 (enumerator_numbers items)
@@ -116,13 +117,13 @@ numbering_all items i k so_far le before = sym (append-nil so_far) ∙ left_all 
 
 pub ruleset numberings = (numbering_first, numbering_more, numbering_all)
 
-pub all_fit : (items : List Enumerator) (numbers : List ℤ) → numbers ≡ map in_64_bits_or_0 (enumerator_numbers items) → length items < 2 ^ 32 - 1 → list_all in_64_bits (flat_map given items) ≡ true
+pub all_fit : (items : List Enumerator) (numbers : List ℤ) → numbers ≡ map in_64_bits_or_0 (enumerator_numbers items) → length items < 2 ^ 32 → list_all in_64_bits (flat_map given items) ≡ true
     → numbers ≡ enumerator_numbers items
 all_fit items numbers is few fit = is ∙ same (enumerator_numbers items) (numbers_fit items few fit)
   where
     same : (zs : List ℤ) → list_all in_64_bits zs ≡ true → map in_64_bits_or_0 zs ≡ zs
     same [] h = refl
-    same (z ∷ zs) h = λ i. ap (λ b. if b then z else pos 0) (both_first _ _ h) i ∷ same zs (both_second _ _ h) i
+    same (z ∷ zs) h = let fit : in_64_bits z ≡ true = both_first _ _ h in λ i. (if fit i then z else pos 0) ∷ same zs (both_second _ _ h) i
 
-pub few_numbers : (items : List Enumerator) → length items < 2 ^ 32 - 1 → length (map in_64_bits_or_0 (enumerator_numbers items)) < 2 ^ 32 - 1
+pub few_numbers : (items : List Enumerator) → length items < 2 ^ 32 → length (map in_64_bits_or_0 (enumerator_numbers items)) < 2 ^ 32
 few_numbers items few = omega (arith, few, length-map (enumerator_numbers items) in_64_bits_or_0, long_as (flat_map given items) 0 items)

@@ -1,14 +1,6 @@
 pub mod Lists
-pub mod Ranges
+pub mod Leaving
 pub mod Fitting
 pub mod Depths
-pub mod Orders
-pub mod Places
-pub mod Numbers
+pub mod Distinct
 pub mod Free
-pub mod Forms
-pub mod Behind
-pub mod Constants
-pub mod Apart
-pub mod Declaring
-pub mod Fit

@@ -88,16 +88,16 @@ ConstantsBoundTypes =
     })
     ≡ sort.Int (pos 0) (pos 4) ∷ sort.SeqOf 1 4 (id 0) ∷ sort.Opaque ∷ []
 
--- A ::= INTEGER (0 .. 100)   B ::= A (10 .. 200)   C ::= B (-5 .. 50)   C (60 .. 70)
+-- A ::= INTEGER (0 .. 100)   B ::= A (10 .. 200)   B (-5 .. 50)
 abbrev pub RangesLeaveLess : Type 0
 RangesLeaveLess =
     types_of (record {
       nodes = integer (from_to (number 0) (number 100)) ∷ node.Reference (name (codes "A")) (limits.Range (from_to (number 10) (number 200)))
-          ∷ node.Reference (name (codes "B")) (limits.Range (from_to (minus 5) (number 50))) ∷ node.Reference (name (codes "C")) (limits.Range (from_to (number 60) (number 70))) ∷ [];
-      types = type_is (codes "A") 0 ∷ type_is (codes "B") 1 ∷ type_is (codes "C") 2 ∷ [];
+          ∷ node.Reference (name (codes "B")) (limits.Range (from_to (minus 5) (number 50))) ∷ [];
+      types = type_is (codes "A") 0 ∷ type_is (codes "B") 1 ∷ [];
       constants = [];
     })
-    ≡ sort.Int (pos 0) (pos 100) ∷ sort.Int (pos 10) (pos 100) ∷ sort.Int (pos 10) (pos 50) ∷ sort.Opaque ∷ []
+    ≡ sort.Int (pos 0) (pos 100) ∷ sort.Int (pos 10) (pos 100) ∷ sort.Int (pos 10) (pos 50) ∷ []
 
 -- { a (2), b, c (0), d, e (-1), f }: 2, 1, 0, 3, -1, 4
 abbrev pub GapsAreFilled : Type 0

@@ -1,23 +1,11 @@
 -- Lists that keep what is found once of each type and of each constant. A place that a list does not have stands for none: it has no
 -- numbers, no value and no mark. The types and constants are those of modules laid out flat (X.680 clauses 16, 18 to 20 and 25).
-use Rattle.std.specs.Prelude.{◌≡◌, ◌<◌, ◌+◌, ◌-◌, ◌^◌, ◌==◌, ℕ, Bool, true, false, List, [], map, length, drop, Option, Some, None, unwrap_or, slice_get, ℤ, pos, flat_map, if◌then◌else◌}
-use Rattle.std.specs.Ordering.{int_eq}
-use Rattle.og_names.specs.declared.NameId.{NameId}
-use Rattle.og_types.specs.declared.TypeId.{TypeId}
-use Rattle.og_types.specs.declared.Sort.{Sort}
-use Rattle.og_types.specs.declared.Sort.TheVariants as sort
-use Rattle.og_types.specs.Table.{in_64_bits, all_differ, same_name}
-use Rattle.og_asn1.specs.declared.syntax.Name.{Name}
+use Rattle.std.specs.Prelude.{◌≡◌, ◌==◌, ℕ, Bool, false, List, Option, None, unwrap_or, slice_get, ℤ, pos, if◌then◌else◌}
+use Rattle.og_types.specs.Table.{in_64_bits}
 use Rattle.og_flat.specs.declared.flat.Flat.{Flat}
-use Rattle.og_flat.specs.declared.flat.Limits.{Limits}
-use Rattle.og_flat.specs.declared.flat.Enumerator.{Enumerator}
-use Rattle.og_flat.specs.declared.flat.PartNode.{PartNode}
-use Rattle.og_flat.specs.declared.flat.Node.{Node}
-use Rattle.og_flat.specs.declared.flat.Node.TheVariants as node
 use Rattle.og_dataview.specs.declared.numbers.Interval.{Interval}
-use Rattle.og_dataview.specs.Following.{number_of, numbers_on, numbers_of, nothing, bounds}
-use Rattle.og_dataview.specs.Violations.{given}
-use Rattle.og_dataview.specs.View.{same_as, has_form, is_truth, integer_sort, enumerator_numbers, name_number, place_in}
+use Rattle.og_dataview.specs.Following.{number_of, numbers_on, numbers_of, nothing}
+use Rattle.og_dataview.specs.View.{same_as, has_form}
 use Rattle.og_dataview.specs.Ways.{step_in}
 use Rattle.og_datatypes.specs.declared.limits.Bounds.{Bounds}
 use Rattle.og_datatypes.specs.declared.limits.Lengths.{Lengths}
@@ -74,48 +62,3 @@ form_at flat p = has_form flat p (slice_get flat.nodes p)
 -- a number of more than 64 bits is left out
 abbrev pub in_64_bits_or_0 : ℤ → ℤ
 in_64_bits_or_0 z = if in_64_bits z then z else pos 0
-
-abbrev pub enumerated_sort : List (List ℕ) → List Enumerator → Sort
-enumerated_sort names items = sort.Enumerated (map (λ (e : Enumerator). name_number names e.name) items) (enumerator_numbers items)
-
-abbrev pub reference_sort : Flat → ℕ → Name → Limits → Sort
-reference_sort flat p name limits = if is_truth flat name limits then sort.Bool else integer_sort (bounds flat p)
-
--- the place of each type in the order, and for others the number of all
-pub record AreNumbers (order : List ℕ) (count : ℕ) (numbers : List ℕ) : Type 0 where
-  pub each : (p : ℕ) → unwrap_or (slice_get numbers p) count ≡ place_in order p
-
--- the places of types in an order, which are known from one place on
-pub record Placed (order : List ℕ) (nodes at : ℕ) (numbers : List ℕ) : Type 0 where
-  pub long : length numbers ≡ nodes
-  pub each : (p : ℕ) → p < nodes → slice_get numbers p ≡ Some (at + place_in (drop at order) p)
-
--- ---- names
-
-abbrev pub name_of_part : PartNode → Name
-name_of_part part = part.name
-
-abbrev pub name_of_item : Enumerator → Name
-name_of_item item = item.name
-
--- the names of the parts or enumerators of a type
-abbrev pub names_at : Option Node → List Name
-names_at (Some (node.Enumerated items is_open)) = map name_of_item items
-names_at (Some (node.Choice parts is_plain)) = map name_of_part parts
-names_at (Some (node.Sequence parts is_plain)) = map name_of_part parts
-names_at _ = []
-
--- an enumeration has so few enumerators that numbers of 32 bits count them
-abbrev pub IsFew : Sort → Type 0
-IsFew (sort.Enumerated names numbers) = length numbers < 2 ^ 32 - 1
-IsFew _ = Unit {0}
-
--- the numbers that are written in a type
-abbrev pub given_at : Option Node → List ℤ
-given_at (Some (node.Enumerated items is_open)) = flat_map given items
-given_at _ = []
-
--- the table gives the names in each type different numbers, and no enumerator has the written number of another
-pub record Fits (names : List (List ℕ)) (flat : Flat) : Type 0 where
-  pub names_differ : (p : ℕ) → all_differ same_name (map (name_number names) (names_at (slice_get flat.nodes p))) ≡ true
-  pub numbers_differ : (p : ℕ) → all_differ int_eq (given_at (slice_get flat.nodes p)) ≡ true

@@ -95,8 +95,14 @@ impl Known {
     }
 }
 
+#[tactic(auto, using(crate::proofs::Depths::loops))]
 fn are_marked(within: &[bool], parts: &[PartNode]) -> bool
     ensures { result ≡ list_all (is_marked within.now) (map node_of_part parts.now) }
 {
-    parts.iter().all(|part| is_set(within, part.node))
+    for part in parts {
+        if !is_set(within, part.node) {
+            return false;
+        }
+    }
+    true
 }

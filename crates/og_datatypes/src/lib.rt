@@ -1,19 +1,16 @@
-//! The data view of modules of ASN.1 (X.680): the types and constants that they declare.
+//! What types of ASN.1 come to (X.680): their bounds and lengths, whether they are supported, and the numbers of enumerators.
 #![tactic(auto)]
 
-mod declared;
 pub mod examples;
 mod forms;
 mod known;
 mod limits;
-mod names;
-mod numbering;
 mod numbers;
-mod order;
 mod ranges;
-mod reading;
 mod sames;
-mod sorts;
 mod values;
 
-pub use reading::read_modules;
+pub use known::Known;
+pub use limits::{Bounds, Lengths, Limited};
+pub use numbers::enumerator_numbers;
+pub use values::Valued;

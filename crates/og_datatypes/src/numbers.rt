@@ -25,10 +25,10 @@ struct Given {
 #[tactic(auto, using(crate::proofs::Free::all_fit, crate::proofs::Free::few_numbers))]
 pub fn enumerator_numbers(alloc: Global, items: &[Enumerator]) -> Result<Items<i64>, NoMemory>
     ensures numbers { IfOk result (λ numbers. list_all in_64_bits (flat_map given items.now) ≡ true → numbers ≡ enumerator_numbers items.now) }
-    ensures few { IfOk result (λ numbers. length numbers < 2 ^ 32 - 1) }
+    ensures few { IfOk result (λ numbers. length numbers < 2 ^ 32) }
 {
-    let given = given_in(alloc, items)?;
-    let numbers = numbers_of(alloc, &given, items)?;
+    let written = given_in(alloc, items)?;
+    let numbers = numbers_of(alloc, &written, items)?;
     Ok(numbers)
 }
 
@@ -39,14 +39,14 @@ fn given_in(alloc: Global, items: &[Enumerator]) -> Result<Given, NoMemory>
     ensures count { IfOk result (λ given_there. given_there.count ≡ length (flat_map given items.now)) }
 {
     let _count = counted(items.len())?;
-    let mut given = Given {
+    let mut written = Given {
         numbers: IndexSet::new(alloc),
         count: 0,
     };
     for item in items {
-        note_given(&mut given, item)?;
+        note_given(&mut written, item)?;
     }
-    Ok(given)
+    Ok(written)
 }
 
 fn note_given(so_far: &mut Given, item: &Enumerator) -> Result<(), NoMemory>
@@ -64,17 +64,17 @@ fn note_given(so_far: &mut Given, item: &Enumerator) -> Result<(), NoMemory>
 
 /// The numbers of enumerators, where those that are written are known. One that does not lie in 64 bits is 0.
 #[tactic(auto, using(crate::proofs::Free::numberings))]
-fn numbers_of(alloc: Global, given: &Given, items: &[Enumerator]) -> Result<Items<i64>, NoMemory>
-    requires numbers { AreMet (flat_map given items.now) given.now.numbers.keys }
-    requires count { given.now.count ≡ length (flat_map given items.now) }
+fn numbers_of(alloc: Global, written: &Given, items: &[Enumerator]) -> Result<Items<i64>, NoMemory>
+    requires numbers { AreMet (flat_map given items.now) written.now.numbers.keys }
+    requires count { written.now.count ≡ length (flat_map given items.now) }
     ensures numbers { IfOk result (λ numbers. numbers ≡ map in_64_bits_or_0 (enumerator_numbers items.now)) }
-    ensures few { OnOk result (length items.now < 2 ^ 32 - 1) }
+    ensures few { OnOk result (length items.now < 2 ^ 32) }
 {
     let _count = counted(items.len())?;
     let mut numbers = Items::new(alloc);
     let mut next: u128 = 0;
     for item in items {
-        let number = next_number(given, item, &mut next);
+        let number = next_number(written, item, &mut next);
         numbers.push(clipped(number))?;
     }
     Ok(numbers)
@@ -92,15 +92,15 @@ fn clipped(number: i128) -> i64
 
 /// The number of an enumerator, where those without a written number go on from here.
 #[tactic(auto, using(crate::proofs::Free::next_is))]
-fn next_number(given: &Given, item: &Enumerator, next: &mut u128) -> i128
+fn next_number(written: &Given, item: &Enumerator, next: &mut u128) -> i128
     requires { next.old < 2 ^ 100 }
-    ensures number { (numbers : List ℤ) → AreMet numbers given.now.numbers.keys → given.now.count ≡ length numbers → (more : ℕ → List ℤ) → numbers_by numbers next.old item.now.number more ≡ result ∷ more next.new }
-    ensures bound { next.new ≤ next.old + given.now.count + 1 }
+    ensures number { (numbers : List ℤ) → AreMet numbers written.now.numbers.keys → written.now.count ≡ length numbers → (more : ℕ → List ℤ) → numbers_by numbers next.old item.now.number more ≡ result ∷ more next.new }
+    ensures bound { next.new ≤ next.old + 2 ^ 32 }
 {
     match item.number {
         Some(number) => as_number(number),
         None => {
-            let free = least_free(&given.numbers, given.count, *next);
+            let free = least_free(&written.numbers, written.count, *next);
             *next = free + 1;
             free as i128
         }
@@ -109,24 +109,23 @@ fn next_number(given: &Given, item: &Enumerator, next: &mut u128) -> i128
 
 /// The least number from one on that is not written, where so many are.
 #[tactic(auto, using(crate::proofs::Free::searching))]
-fn least_free(given: &IndexSet<i128>, count: u32, from: u128) -> u128
+fn least_free(written: &IndexSet<i128>, count: u32, from: u128) -> u128
     requires { from < 2 ^ 100 }
-    ensures number { (numbers : List ℤ) → AreMet numbers given.now.keys → result ≡ least_free numbers count from }
+    ensures number { (numbers : List ℤ) → AreMet numbers written.now.keys → result ≡ least_free numbers count from }
     ensures bound { result ≤ from + count }
 {
-    let mut free = from;
-    for _left in 0..count {
-        if !is_given(given, free) {
+    for step in 0..count {
+        let free = from + u128::from(step);
+        if !is_given(written, free) {
             return free;
         }
-        free += 1;
     }
-    free
+    from + u128::from(count)
 }
 
-fn is_given(given: &IndexSet<i128>, number: u128) -> bool
+fn is_given(written: &IndexSet<i128>, number: u128) -> bool
     requires { number < 2 ^ 101 }
-    ensures { (numbers : List ℤ) → AreMet numbers given.now.keys → result ≡ is_given numbers (pos number) }
+    ensures { (numbers : List ℤ) → AreMet numbers written.now.keys → result ≡ is_given numbers (pos number) }
 {
-    given.contains(&(number as i128))
+    written.contains(&(number as i128))
 }

@@ -41,13 +41,13 @@ fn both(a: Interval, b: Interval) -> Interval
 
 /// Where ways of so many steps lead, and the numbers that are left on them.
 #[derive(Drop)]
-struct Walk {
+struct Ways {
     ends: Vec<u32>,
     ranges: Vec<Interval>,
 }
 
 /// The numbers of all types.
-#[tactic(auto, using(crate::proofs::Ranges::ranges_by))]
+#[tactic(auto, using(crate::proofs::Leaving::ranges_by))]
 pub fn ranges_of(alloc: Global, valued: &Valued) -> Result<Vec<Interval>, NoMemory>
     ensures { IfOk result (λ ranges. AreRanges valued.now.scope.flat ranges.items) }
 {
@@ -73,8 +73,8 @@ fn own_ranges(alloc: Global, valued: &Valued) -> Result<Vec<Interval>, NoMemory>
 }
 
 /// The ways of so many steps from all places.
-#[tactic(auto, using(crate::proofs::Ranges::walks))]
-fn walk(alloc: Global, nexts: &[u32], owns: &[Interval], steps: usize) -> Result<Walk, NoMemory>
+#[tactic(auto, using(crate::proofs::Leaving::walks))]
+fn walk(alloc: Global, nexts: &[u32], owns: &[Interval], steps: usize) -> Result<Ways, NoMemory>
     requires { length nexts.now ≡ length owns.now }
     ensures leads { IfOk result (λ walk. Leads (step_in nexts.now) steps walk.ends.items) }
     ensures leaves { IfOk result (λ walk. Leaves (step_in nexts.now) (range_at owns.now) steps walk.ranges.items) }
@@ -94,7 +94,7 @@ fn walk(alloc: Global, nexts: &[u32], owns: &[Interval], steps: usize) -> Result
 }
 
 /// Ways of no steps.
-fn standing(alloc: Global, nexts: &[u32], owns: &[Interval]) -> Result<Walk, NoMemory>
+fn standing(alloc: Global, nexts: &[u32], owns: &[Interval]) -> Result<Ways, NoMemory>
     requires { length nexts.now ≡ length owns.now }
     ensures leads { IfOk result (λ walk. (p : ℕ) → step_in walk.ends.items p ≡ p) }
     ensures leaves { IfOk result (λ walk. walk.ranges.items ≡ owns.now) }
@@ -102,7 +102,7 @@ fn standing(alloc: Global, nexts: &[u32], owns: &[Interval]) -> Result<Walk, NoM
 {
     let ends = walked(alloc, nexts, 0)?;
     let ranges = Vec::from_slice(alloc, owns)?;
-    Ok(Walk { ends, ranges })
+    Ok(Ways { ends, ranges })
 }
 
 /// Ways that go on where others end.
@@ -110,8 +110,8 @@ fn joined(
     alloc: Global,
     ends: &[u32],
     ranges: &[Interval],
-    further: &Walk,
-) -> Result<Walk, NoMemory>
+    further: &Ways,
+) -> Result<Ways, NoMemory>
     requires ends { length ends.now ≡ length ranges.now }
     requires ends_too { length ends.now ≡ length further.now.ends.items }
     requires ranges_too { length ends.now ≡ length further.now.ranges.items }
@@ -122,7 +122,7 @@ fn joined(
 {
     let all_ends = then(alloc, ends, further.ends.as_slice())?;
     let all_ranges = both_ranges(alloc, ends, ranges, further.ranges.as_slice())?;
-    Ok(Walk {
+    Ok(Ways {
         ends: all_ends,
         ranges: all_ranges,
     })
@@ -144,9 +144,16 @@ fn both_ranges(
     let count = counted(ends.len())?;
     let mut list = Vec::new(alloc);
     for place in 0..count {
-        let here = range_in(ranges, place);
-        let there = range_in(further, next_in(ends, place));
-        list.push(both(here, there))?;
+        list.push(both_at(ends, ranges, further, place))?;
     }
     Ok(list)
+}
+
+/// The numbers that are left at one place and where its way ends.
+fn both_at(ends: &[u32], ranges: &[Interval], further: &[Interval], place: u32) -> Interval
+    ensures { result ≡ both (range_at ranges.now place) (range_at further.now (step_in ends.now place)) }
+{
+    let here = range_in(ranges, place);
+    let there = range_in(further, next_in(ends, place));
+    both(here, there)
 }

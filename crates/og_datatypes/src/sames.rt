@@ -2,7 +2,7 @@
 ghost use Rattle.std.specs.Prelude.{◌≡◌, ℕ, suc, IfOk, length};
 ghost use Rattle.og_dataview.specs.View.{next_same, same_as};
 ghost use Rattle.og_dataview.specs.Ways.{step_in, Leads};
-ghost use Rattle.og_datatypes.specs.Kept.{AreSame};
+ghost use Rattle.og_datatypes.specs.Kept.{ended_in, AreSame};
 
 use og_dataview::{Scope, counted, next_in, node_of, walked};
 use og_flat::{Limits, Node};
@@ -45,7 +45,7 @@ fn same_as(nexts: &[u32], ends: &[u32], place: u32) -> u32
     }
 }
 
-#[tactic(auto, using(og_dataview::proofs::Tables::tables))]
+#[tactic(auto, using(crate::proofs::Lists::lists))]
 fn next_sames(alloc: Global, scope: &Scope) -> Result<Vec<u32>, NoMemory>
     ensures { IfOk result (λ nexts. (p : ℕ) → step_in nexts.items p ≡ next_same scope.now.flat p) }
 {
