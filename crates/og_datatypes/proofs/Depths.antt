@@ -1,9 +1,9 @@
 -- How deep types are, and the types with which they share their numbers.
-use Rattle.std.proofs.Common.{◌≡◌, ℕ, zero, suc, ◌+◌, ◌≤◌, Bool, true, false, ◌&&◌, ◌==◌, List, [], ◌∷◌, map, length, slice_get, Option, None, refl, sym, ap, ◌∙◌, arith, eqb-true, if◌then◌else◌}
+use Rattle.std.proofs.Common.{◌≡◌, ℕ, zero, suc, ◌≤◌, Bool, true, false, ◌&&◌, ◌==◌, List, ◌∷◌, map, length, refl, ap, ◌∙◌, arith, eqb-true, if◌then◌else◌}
 use Rattle.std.specs.List.{list_all}
 use Rattle.og_flat.specs.declared.flat.Flat.{Flat}
 use Rattle.og_dataview.specs.Following.{walk}
-use Rattle.og_dataview.specs.View.{node_of_part, next_same, ended_at, same_as, has_form, is_made_of, is_within}
+use Rattle.og_dataview.specs.View.{node_of_part, next_same, ended_at, same_as, is_made_of, is_within}
 use Rattle.og_dataview.proofs.Tables.{Tabulated, tabulated_none, tabulated_more, none_behind, walk_same, walk_by}
 use Rattle.og_dataview.specs.Ways.{step_in, Leads}
 use Rattle.og_datatypes.specs.Kept.{is_marked, ended_in, AreMarked, AreSame}

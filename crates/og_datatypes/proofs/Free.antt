@@ -1,9 +1,9 @@
 -- The numbers of enumerators: those without a written one take, in order, the least that are not written.
-use Rattle.std.proofs.Common.{◌≡◌, ℕ, zero, suc, ◌+◌, ◌-◌, ◌*◌, ◌^◌, ◌≤◌, ◌<◌, Bool, true, false, not, ◌&&◌, ◌||◌, List, [], ◌∷◌, ◌++◌, length, take, get_or, map, Option, Some, None, ℤ, pos, refl, sym, ap, ◌∙◌, arith, append_assoc, append-nil, length-append, subst, if◌then◌else◌}
+use Rattle.std.proofs.Common.{◌≡◌, ℕ, suc, ◌+◌, ◌-◌, ◌*◌, ◌^◌, ◌≤◌, ◌<◌, Bool, true, false, List, [], ◌∷◌, ◌++◌, length, take, get_or, map, None, ℤ, pos, refl, sym, ap, ◌∙◌, arith, append_assoc, append-nil, length-append, subst, if◌then◌else◌}
 use Rattle.std.specs.List.{list_any, list_all, flat_map}
 use Rattle.std.specs.Ordering.{int_eq}
 use Rattle.std.proofs.lemmas.List.{take_more, flat_map_more, length-map}
-use Rattle.og_types.specs.Table.{in_64_bits, all_differ}
+use Rattle.og_types.specs.Table.{in_64_bits}
 use Rattle.og_names.proofs.Truths.{both_first, both_second}
 use Rattle.og_names.proofs.Loops.{Left, left_first, left_more, left_all}
 use Rattle.og_flat.specs.declared.flat.Enumerator.{Enumerator}

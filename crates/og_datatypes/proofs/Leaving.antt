@@ -1,8 +1,8 @@
 -- The numbers that are left on ways: those on a way of a + b steps are those on its first a steps and on the b steps behind.
-use Rattle.std.proofs.Common.{◌≡◌, ℕ, zero, suc, ◌+◌, List, length, refl, sym, ap, ◌∙◌, arith, ℤ, int_le, Bool, true, false, if◌then◌else◌}
+use Rattle.std.proofs.Common.{◌≡◌, ℕ, zero, suc, ◌+◌, List, length, sym, ap, ◌∙◌, arith, ℤ}
 use Rattle.std.proofs.lemmas.Int.{ints}
 use Rattle.og_dataview.specs.declared.numbers.Interval.{Interval}
-use Rattle.og_dataview.specs.Following.{walk, greater, lesser, both, numbers_on, next_type, numbers_at, numbers_of}
+use Rattle.og_dataview.specs.Following.{walk, greater, lesser, both, numbers_on, next_type, numbers_at}
 use Rattle.og_dataview.specs.Ways.{step_in, Leads}
 use Rattle.og_dataview.proofs.Tables.{walk_same, walks_none, walks_even, walk_by}
 use Rattle.og_flat.specs.declared.flat.Flat.{Flat}

@@ -1,14 +1,12 @@
 -- Lists that keep what a function says of each place.
-use Rattle.std.proofs.Common.{◌≡◌, ℕ, zero, suc, ◌+◌, ◌≤◌, ◌<◌, Bool, true, false, List, [], ◌∷◌, ◌++◌, length, slice_get, Option, Some, None, unwrap_or, ℤ, refl, sym, ap, ◌∙◌, arith, ◌⊎◌, inl, inr, map, get_or}
+use Rattle.std.proofs.Common.{◌≡◌, ℕ, zero, suc, ◌≤◌, ◌<◌, List, length, slice_get, Option, Some, None, unwrap_or, ℤ, refl, sym, ap, ◌∙◌, arith, ◌⊎◌, inl, inr, map}
 use Rattle.std.specs.List.{range_with_len}
 use Rattle.std.proofs.lemmas.List.FromFn.{length-map-range_with_len, get_or-map-range_with_len}
 use Rattle.std.proofs.lemmas.Option.{slice_get-get_or}
 use Rattle.og_flat.specs.declared.flat.Flat.{Flat}
-use Rattle.og_flat.specs.declared.flat.ConstantNode.{ConstantNode}
 use Rattle.og_dataview.specs.Following.{walk, next_constant, own_number, number_of}
-use Rattle.og_dataview.specs.Ways.{step_in}
 use Rattle.og_dataview.proofs.Tables.{Tabulated, tabulated_none, tabulated_more, none_behind, steps_are}
-use Rattle.og_datatypes.specs.Kept.{value_at, AreValues}
+use Rattle.og_datatypes.specs.Kept.{AreValues}
 
 pub below_or_not : (p n : ℕ) → (p < n) ⊎ (n ≤ p)
 below_or_not p zero = inr (omega arith)

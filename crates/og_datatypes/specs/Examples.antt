@@ -1,8 +1,6 @@
 -- Worked examples of the types of a view (X.680 clauses 18 to 20, 25, 29, 49 and 51), for modules laid out flat. The n-th declared name
 -- of a text is the n-th letter.
-use Rattle.std.specs.Prelude.{◌≡◌, ◌-◌, ◌+◌, ℕ, zero, suc, Bool, true, false, List, [], ◌∷◌, ◌++◌, map, Option, Some, None, ℤ, pos, negsuc, codes}
-use Rattle.og_base.specs.declared.Place.{Place}
-use Rattle.og_names.specs.declared.NameId.{NameId}
+use Rattle.std.specs.Prelude.{◌≡◌, ℕ, zero, suc, Bool, true, false, List, [], ◌∷◌, ◌++◌, map, Some, None, pos, negsuc, codes}
 use Rattle.og_types.specs.declared.TypeId.{TypeId}
 use Rattle.og_types.specs.declared.Sort.{Sort}
 use Rattle.og_types.specs.declared.Sort.TheVariants as sort
@@ -12,14 +10,12 @@ use Rattle.og_flat.specs.declared.flat.Flat.{Flat}
 use Rattle.og_flat.specs.declared.flat.Bound.{Bound}
 use Rattle.og_flat.specs.declared.flat.Bound.TheVariants as bound
 use Rattle.og_flat.specs.declared.flat.Range.{Range}
-use Rattle.og_flat.specs.declared.flat.Limits.{Limits}
 use Rattle.og_flat.specs.declared.flat.Limits.TheVariants as limits
 use Rattle.og_flat.specs.declared.flat.Enumerator.{Enumerator}
 use Rattle.og_flat.specs.declared.flat.PartNode.{PartNode}
 use Rattle.og_flat.specs.declared.flat.Node.{Node}
 use Rattle.og_flat.specs.declared.flat.Node.TheVariants as node
 use Rattle.og_flat.specs.declared.flat.TypeNode.{TypeNode}
-use Rattle.og_flat.specs.declared.flat.ConstantNode.{ConstantNode}
 use Rattle.og_flat.specs.declared.flat.ConstantValue.TheVariants as value
 use Rattle.og_dataview.specs.View.{in_order, is_supported, sort_of, enumerator_numbers}
 

@@ -1,4 +1,4 @@
-use Rattle.std.proofs.Common.{◌<◌, ◌^◌, ap, sym, subst, length}
+use Rattle.std.proofs.Common.{◌<◌, ◌^◌, sym, subst, length}
 use Rattle.og_datatypes.proofs.Free.{all_fit, few_numbers}
 use Rattle.og_datatypes.proofs.numbers.enumerator_numbers.Goals as goal
 
