@@ -1,11 +1,11 @@
 #!/usr/bin/env python3
-"""Measures how long `og check` takes on modules of ASN.1 with many types, beside `gcc -fsyntax-only` on C of as many bytes.
+"""Measures `og check` on modules of ASN.1 with many types, beside `gcc -fsyntax-only` on C of as many bytes.
 
     (cd crates/og_main && rt run) ; tools/check_times.py
 
-Of each four types one is an INTEGER with a range, one is ENUMERATED, one a SEQUENCE OF and one a SEQUENCE. Each time is the
-least processor time of nine processes. The status is 1 where the time grows faster than the number of types to the power of
-1.1, where the check takes longer than gcc does, or where it does not accept the files.
+Of each four types one is an INTEGER with a range, one is ENUMERATED, one a SEQUENCE OF and one a SEQUENCE. Each time is
+the least processor time of nine processes. The status is 1 where the time grows faster than the number of types to the
+power of 1.1, where the check takes longer than gcc does, or where it does not accept the files.
 """
 import math
 import os

@@ -1,5 +1,5 @@
--- Worked examples of the types of a view (X.680 clauses 18 to 20, 25, 29, 49 and 51), for modules laid out flat. The n-th declared name
--- of a text is the n-th letter.
+-- Worked examples of the types of a view (X.680 clauses 18 to 20, 25, 29, 49 and 51), for modules laid out flat. The
+-- names a, b and c have the numbers 0, 1 and 2.
 use Rattle.std.specs.Prelude.{◌≡◌, ℕ, zero, suc, Bool, true, false, List, [], ◌∷◌, ◌++◌, map, Some, None, pos, negsuc, codes}
 use Rattle.og_types.specs.declared.TypeId.{TypeId}
 use Rattle.og_types.specs.declared.Sort.{Sort}

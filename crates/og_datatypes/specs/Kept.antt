@@ -1,5 +1,6 @@
--- Lists that keep what is found once of each type and of each constant. A place that a list does not have stands for none: it has no
--- numbers, no value and no mark. The types and constants are those of modules laid out flat (X.680 clauses 16, 18 to 20 and 25).
+-- Lists that keep what is found once of each type and of each constant. A place that a list does not have stands for
+-- none: it has no numbers, no value and no mark. The types and constants are those of modules laid out flat (X.680
+-- clauses 16, 18 to 20 and 25).
 use Rattle.std.specs.Prelude.{◌≡◌, ◌==◌, ℕ, Bool, false, List, Option, None, unwrap_or, slice_get, ℤ, pos, if◌then◌else◌}
 use Rattle.og_types.specs.Table.{in_64_bits}
 use Rattle.og_flat.specs.declared.flat.Flat.{Flat}

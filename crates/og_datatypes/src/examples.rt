@@ -1,4 +1,4 @@
-//! Worked examples, computed from the definitions. The function does nothing, and its contract says what the definitions give.
+//! Worked examples, computed from the definitions. The function does nothing, and its contract says what they give.
 ghost use Rattle.og_datatypes.specs.Examples.{BoundsAtTheirEdges, SizesAtTheirEdges, ConstantsBoundTypes, RangesLeaveLess, GapsAreFilled, NumbersAtTheirEdges, OpaquePartsAreOpaque, SixtyFourDeep};
 
 /// Types of views.

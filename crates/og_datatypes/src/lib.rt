@@ -1,4 +1,4 @@
-//! What types of ASN.1 come to (X.680): their bounds and lengths, whether they are supported, and the numbers of enumerators.
+//! What types of ASN.1 come to (X.680): their bounds and lengths, whether they are supported, numbers of enumerators.
 #![tactic(auto)]
 
 pub mod examples;

@@ -1,5 +1,5 @@
-//! The numbers of integer types: those that all ranges on the way along references leave (X.680 clauses 49.2 and 51.4). They are found
-//! for all types at once, by halving the number of steps.
+//! The numbers of integer types: those that all ranges on the way along references leave (X.680 clauses 49.2 and 51.4).
+//! They are found for all types at once, by halving the number of steps.
 ghost use Rattle.std.specs.Prelude.{◌≡◌, ℕ, IfOk, length};
 ghost use Rattle.og_dataview.specs.Following.{greater, lesser, both, next_type, numbers_at, numbers_of};
 ghost use Rattle.og_dataview.specs.Ways.{step_in, Leads};
