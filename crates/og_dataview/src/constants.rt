@@ -99,7 +99,8 @@ impl Scope {
     }
 }
 
-fn within_64_bits(number: i128) -> Option<i64>
+/// The number, where it is one of 64 bits with a sign.
+pub fn within_64_bits(number: i128) -> Option<i64>
     ensures { result ≡ within_64_bits number }
 {
     if number >= i128::from(i64::MIN) && number <= i128::from(i64::MAX) {

@@ -17,7 +17,13 @@ mod view;
 mod violations;
 mod ways;
 
+pub use constants::within_64_bits;
+pub use counting::counted;
+pub use known::is_boolean;
 pub use naming::add_all as add_names;
-pub use scope::Scope;
+pub use numbers::{Interval, signed};
+pub use repeats::as_number;
+pub use scope::{Scope, next_types, node_of};
 pub use view::{Constant, DataView, NamedType};
-pub use violations::first_violation;
+pub use violations::{first_in, first_violation};
+pub use ways::{next_in, then, walked};

@@ -104,9 +104,11 @@ fn ends_of(alloc: Global, flat: &Flat, types: &Index) -> Result<Vec<u32>, NoMemo
     Ok(ends)
 }
 
-fn next_types(alloc: Global, flat: &Flat, types: &Index) -> Result<Vec<u32>, NoMemory>
+/// The type to which each reference leads. Each other type leads to itself.
+pub fn next_types(alloc: Global, flat: &Flat, types: &Index) -> Result<Vec<u32>, NoMemory>
     requires { IsIndex (type_keys flat.now) types.now }
-    ensures { IfOk result (λ nexts. (p : ℕ) → step_in nexts.items p ≡ next_type flat.now p) }
+    ensures each { IfOk result (λ nexts. (p : ℕ) → step_in nexts.items p ≡ next_type flat.now p) }
+    ensures length { IfOk result (λ nexts. length nexts.items ≡ length flat.now.nodes) }
 {
     let count = counted(flat.nodes.len())?;
     let mut nexts = Vec::new(alloc);

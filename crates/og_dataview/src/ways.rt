@@ -48,7 +48,7 @@ fn standing(alloc: Global, count: usize) -> Result<Vec<u32>, NoMemory>
 
 /// Where each place leads to by the first list, and then by the second one.
 #[tactic(auto, using(crate::proofs::Tables::tables))]
-fn then(alloc: Global, first: &[u32], second: &[u32]) -> Result<Vec<u32>, NoMemory>
+pub fn then(alloc: Global, first: &[u32], second: &[u32]) -> Result<Vec<u32>, NoMemory>
     requires { length first.now ≡ length second.now }
     ensures each { IfOk result (λ list. (p : ℕ) → step_in list.items p ≡ step_in second.now (step_in first.now p)) }
     ensures length { IfOk result (λ list. length list.items ≡ length first.now) }

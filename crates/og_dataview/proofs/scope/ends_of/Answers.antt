@@ -8,5 +8,5 @@ pub returns : goal.returns
 returns c =
     leads_by (next_type c.args.flat.now) (c.in_ok-steps.steps + 1) (suc (length c.args.flat.now.types)) c.as_slice.result.now c.in_ok-ends.ends.items
     (omega (arith, c.in_ok-steps.ensures, c.len.ensures))
-    (λ p. ap (λ xs. step_in xs p) c.as_slice.ensures.value ∙ c.in_ok-nexts.ensures p)
+    (λ p. ap (λ xs. step_in xs p) c.as_slice.ensures.value ∙ c.in_ok-nexts.ensures.each p)
     c.in_ok-ends.ensures.leads
