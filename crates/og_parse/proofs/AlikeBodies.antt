@@ -384,7 +384,7 @@ record OneSoFar (a b : SoFar) : Type 0 where
   terminator : Maybe OneTerminator a.1 b.1
 
 with_alike : (a b : SoFar) {x y : StepText} → OneSoFar a b → OneStepText x y → OneSoFar (with_step a x) (with_step b y)
-with_alike a b o (a_step i) = record { steps = one_more {Is = OneStep} a.0 b.0 _ _ o.steps i; terminator = o.terminator }
+with_alike a b o (a_step i) = record { steps = one_more OneStep a.0 b.0 _ _ o.steps i; terminator = o.terminator }
 with_alike a b o (a_terminator s t i) = record { steps = o.steps; terminator = i }
 
 agree_onto_step : (n : ℕ) {transition : Take TransitionTree} → Same transition → (a b : SoFar) → OneSoFar a b → Agree OneSoFar (onto_step n transition a) (onto_step n transition b)

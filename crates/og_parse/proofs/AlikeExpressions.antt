@@ -255,7 +255,7 @@ agree_first_value n = record {
 
 agree_first_operand : {i : Inside} → Inner i → Agree OneExpr (first_operand_at i) (first_operand_at i)
 unfolding first_operand_at
-agree_first_operand n = record { by = λ r s b. either 0 b ((agree_first_value n).by _ _ (on b)) ((agree_bracketed n).by r s b) }
+agree_first_operand n = record { by = λ r s b. either 0 b ((agree_first_value n).by _ _ (on b)) ((agree_bracketed n).by (after r) (after s) (on b)) }
 
 agree_leading : {i : Inside} → Inner i → Agree OneExpr (leading_at i) (leading_at i)
 unfolding leading_at

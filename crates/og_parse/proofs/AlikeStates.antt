@@ -204,7 +204,7 @@ unfolding again_at
 agree_again n x y same = record {
   by = λ r s b.
       let e = (agree_empty x.1 y.1 same.header).by (after r) (after s) (on b) in
-      let parts = (agree_more (agree_plain n) _ _ (one_more {Is = OnePartition} x.0 y.0 _ _ same.parts (partition_empty _ _ e.is))).by _ _ e.left in
+      let parts = (agree_more (agree_plain n) _ _ (one_more OnePartition x.0 y.0 _ _ same.parts (partition_empty _ _ e.is))).by _ _ e.left in
       let h = agree_header.by _ _ parts.left in
       record { is = record { parts = parts.is; header = h.is }; left = h.left };
 }
@@ -240,7 +240,7 @@ unfolding first_composite_at
 agree_first_composite i x y same = record {
   by = λ r s b.
       let c = (agree_composite_body i x.1 y.1 same.header).by r s b in
-      record { is = one_more {Is = OnePartition} x.0 y.0 _ _ same.parts (partition_composite c.is); left = c.left };
+      record { is = one_more OnePartition x.0 y.0 _ _ same.parts (partition_composite c.is); left = c.left };
 }
 
 agree_aggregated : (n : ℕ) {inner : Take InnerTree} → Same inner → Agree (Alike OnePartition) (aggregated_at n inner) (aggregated_at n inner)
@@ -278,7 +278,7 @@ unfolding several_at
 agree_several n p q l m i = record {
   by = λ r s b.
       let second = (agree_next agree_name).by r s b in
-      let names = (agree_more (agree_next agree_name) (l ∷ _ ∷ []) (m ∷ _ ∷ []) (i, second.is, tt)).by _ _ second.left in
+      let names = (agree_more (agree_next agree_name) (l ∷ _ ∷ []) (m ∷ _ ∷ []) (i, (second.is, tt))).by _ _ second.left in
       let e = agree_end.by _ _ names.left in
       let x = (agree_state_body n p q _ _ _ _ (list_names _ _ names.is) e.is).by _ _ e.left in
       record { is = inner_state _ _ x.is; left = x.left };

@@ -121,17 +121,17 @@ agree_onto {Is = Is} f g so x y i = record {
   by = λ r s b. subst (λ (n : ℕ). Fit Is (turns f (length r.choices) x r) (turns g n y s)) (ap length b.choices) ((agree_turns f g so (length r.choices) x y i).by r s b);
 }
 
-pub one_more : {X : Type 0} {Is : X → X → Type 0} (xs ys : List X) (x y : X) → Alike Is xs ys → Is x y → Alike Is (xs ++ x ∷ []) (ys ++ y ∷ [])
-one_more [] [] x y a i = (i, tt)
-one_more [] (v ∷ vs) x y a i = absurd a
-one_more (u ∷ us) [] x y a i = absurd a
-one_more (u ∷ us) (v ∷ vs) x y a i = (a.0, one_more us vs x y a.1 i)
+pub one_more : {X : Type 0} (Is : X → X → Type 0) (xs ys : List X) (x y : X) → Alike Is xs ys → Is x y → Alike Is (xs ++ x ∷ []) (ys ++ y ∷ [])
+one_more Is [] [] x y a i = (i, tt)
+one_more Is [] (v ∷ vs) x y a i = absurd a
+one_more Is (u ∷ us) [] x y a i = absurd a
+one_more Is (u ∷ us) (v ∷ vs) x y a i = (a.0, one_more Is us vs x y a.1 i)
 
 agree_pushed : {X : Type 0} {Is : X → X → Type 0} {p q : Take X} → Agree Is p q → (xs ys : List X) → Alike Is xs ys → Agree (Alike Is) (pushed p xs) (pushed q ys)
 agree_pushed {Is = Is} {p = p} {q = q} a xs ys l = record {
   by = λ r s b.
       let f = a.by r s b in
-      record { is = one_more {Is = Is} xs ys (p r).0 (q s).0 l f.is; left = f.left };
+      record { is = one_more Is xs ys (p r).0 (q s).0 l f.is; left = f.left };
 }
 
 pub agree_more : {X : Type 0} {Is : X → X → Type 0} {p q : Take X} → Agree Is p q → (xs ys : List X) → Alike Is xs ys → Agree (Alike Is) (more_of p xs) (more_of q ys)

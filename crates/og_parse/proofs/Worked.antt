@@ -16,7 +16,7 @@ use Rattle.og_parse_body.specs.Grammar.{transition, no_step, step, assignments, 
 use Rattle.og_parse.specs.Examples.{ProductInSum, SumToTheLeft, AndInOr, SignInProduct, KeywordAsField, ChoiceOfChoice, NoItems, TwoItems, NegativeComponent, LabelledTask, DecisionWithElse, HyphenedModule}
 
 -- the token in front
-front : {t : Token} {p : Place} {ts : List Spanned} → Stands t p (record { token = t; place = p } ∷ ts) ts
+front : {t : Token} {p : Place} {m n : ℕ} {ts : List Spanned} → Stands t p (record { token = t; place = p; start = m; end = n } ∷ ts) ts
 front = stands _ _ _ _ refl refl
 
 -- tokens of two kinds
@@ -28,8 +28,8 @@ other t u f e = differ (kind_of t) (kind_of u) f (ap kind_of e)
 
 -- ---- a name on each level
 
-named : {n : Name} {ts us : List Spanned} → Named n ts us → IsUnary (variable_expr (variable n [])) ts us
-named {n = n} s = var (selected n [] s no_selector)
+named : (n : Name) {ts us : List Spanned} → Named n ts us → IsUnary (variable_expr (variable n [])) ts us
+named n s = var (selected n [] s no_selector)
 
 prod : {e : ExprTree} {ts us : List Spanned} → IsUnary e ts us → IsProd e ts us
 prod = prod_alone
@@ -57,16 +57,16 @@ no_minus t u ts ne b =
 -- ---- the examples
 
 pub product_in_sum : ProductInSum
-product_in_sum = whole (sum_more (sum (named front)) (plus front) (prod_more (prod (named front)) (times front) (named front)))
+product_in_sum = whole (sum_more (sum (named _ front)) (plus front) (prod_more (prod (named _ front)) (times front) (named _ front)))
 
 pub sum_to_the_left : SumToTheLeft
-sum_to_the_left = whole (sum_more (sum_more (sum (named front)) (minus front) (prod (named front))) (minus front) (prod (named front)))
+sum_to_the_left = whole (sum_more (sum_more (sum (named _ front)) (minus front) (prod (named _ front))) (minus front) (prod (named _ front)))
 
 pub and_in_or : AndInOr
-and_in_or = no_choice_value (or_more (or_alone (and_alone (rel (sum (named front))))) (or_plain front) (and_more (and_alone (rel (sum (named front)))) (and_plain front) (rel (sum (named front)))))
+and_in_or = no_choice_value (or_more (or_alone (and_alone (rel (sum (named _ front))))) (or_plain front) (and_more (and_alone (rel (sum (named _ front)))) (and_plain front) (rel (sum (named _ front)))))
 
 pub sign_in_product : SignInProduct
-sign_in_product = whole (sum_alone (prod_more (prod (negative front (named front))) (times front) (named front)))
+sign_in_product = whole (sum_alone (prod_more (prod (negative front (named _ front))) (times front) (named _ front)))
 
 pub keyword_as_field : KeywordAsField
 keyword_as_field = value (var (selected _ _ front (more_selectors (dot front front) no_selector)))
@@ -79,7 +79,7 @@ without_items = value (braces front no_items (_, front))
 
 pub two_items : TwoItems
 two_items =
-    value (braces front (some_items (item (value (named front)) (no_minus _ _ _ (other _ _ refl))) (more_items (_, front) (item (value (named front)) (no_minus _ _ _ (other _ _ refl))) no_more_items)) (_, front))
+    value (braces front (some_items (item (value (named _ front)) (no_minus _ _ _ (other _ _ refl))) (more_items (_, front) (item (value (named _ front)) (no_minus _ _ _ (other _ _ refl))) no_more_items)) (_, front))
 
 pub negative_component : NegativeComponent
 negative_component = value (braces front (some_components (component front (value (negative front (number front))) (other _ _ refl)) no_more_components) (_, front))
@@ -94,7 +94,7 @@ pub decision_with_else : DecisionWithElse
 decision_with_else =
     step _ _ _ _ refl
     (decided _ _ front
-    (decision _ _ _ _ _ (value (named front)) (_, refl, front)
+    (decision _ _ _ _ _ (value (named _ front)) (_, refl, front)
     (more_branches (branch _ _ _ front (_, front, refl) (_, front) (_, front) (transition _ _ no_step refl)) no_branch)
     (an_else _ _ front (_, front)
     (transition _ _ no_step (

@@ -41,7 +41,7 @@ at n = record { file = 0; line = 1; column = n }
 -- tokens one behind the other, the first at this column
 abbrev pub row : ℕ → List Token → List Spanned
 row n [] = []
-row n (t ∷ ts) = record { token = t; place = at n } ∷ row (n + 1) ts
+row n (t ∷ ts) = record { token = t; place = at n; start = n; end = n + 1 } ∷ row (n + 1) ts
 
 abbrev letter : ℕ → Word
 letter code = record { bytes = code ∷ [] }
