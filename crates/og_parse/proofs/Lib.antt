@@ -1,3 +1,10 @@
 pub mod ReadUnits
 pub mod WrittenUnits
 pub mod FileAnswers
+mod Beside
+mod AlikeExpressions
+mod AlikeBodies
+mod AlikeStates
+mod AlikeUnits
+mod SameTokens
+mod Worked

@@ -7,6 +7,8 @@ ghost use Rattle.og_ast.specs.declared.system.Unit.{Unit as UnitTree};
 ghost use Rattle.og_sdl.specs.declared.table.TheConstants.{SDL};
 ghost use Rattle.og_reading.specs.Sentences.{FirstSyntactic};
 ghost use Rattle.og_parse.specs.Grammar.{AreUnits};
+ghost use Rattle.og_parse.specs.Alike.{words_of, AreAlike, StandsAtOne};
+ghost use Rattle.og_parse.specs.Examples.{ProductInSum, SumToTheLeft, AndInOr, SignInProduct, KeywordAsField, ChoiceOfChoice, NoItems, TwoItems, NegativeComponent, LabelledTask, DecisionWithElse, HyphenedModule};
 
 use og_sdl::can_be_read;
 
@@ -19,3 +21,24 @@ pub fn one_answer()
 {
     can_be_read();
 }
+
+/// Files of the same tokens are read alike, wherever these stand. So blanks, ends of lines and comments between two tokens
+/// change no tree but for its places, and no violation of class S but for the place of its token.
+pub fn same_tokens()
+    // Where one of them is a file of units, so is the other.
+    ensures read { (tokens others : List Spanned) (a : List UnitTree) → words_of tokens ≡ words_of others → AreUnits a tokens → (b : List UnitTree) × AreUnits b others }
+    // Their units differ in places alone.
+    ensures alike { (tokens others : List Spanned) (a b : List UnitTree) → words_of tokens ≡ words_of others → AreUnits a tokens → AreUnits b others → AreAlike a b }
+    // Where one of them breaks a rule of class S, the other one breaks it at the same token.
+    ensures broken { (tokens others : List Spanned) (v : Violation) → words_of tokens ≡ words_of others → FirstSyntactic SDL tokens v → (w : Violation) × FirstSyntactic SDL others w × (w.rule ≡ v.rule) × StandsAtOne tokens v others w }
+{
+    can_be_read();
+}
+
+/// Worked examples of the grammar.
+pub fn examples()
+    ensures operators { ProductInSum × SumToTheLeft × AndInOr × SignInProduct }
+    ensures names { KeywordAsField × ChoiceOfChoice × HyphenedModule }
+    ensures braces { NoItems × TwoItems × NegativeComponent }
+    ensures steps { LabelledTask × DecisionWithElse }
+{}
