@@ -112,11 +112,7 @@ fn begin_with(machine: &mut Machine, model: &Model, stimulus: &Stimulus) -> Resu
 }
 
 /// The parameters of a signal hold the values of a stimulus.
-fn set_values(
-    machine: &mut Machine,
-    model: &Model,
-    stimulus: &Stimulus,
-) -> Result<(), NoMemory>
+fn set_values(machine: &mut Machine, model: &Model, stimulus: &Stimulus) -> Result<(), NoMemory>
     requires ready { IsReady (run_of machine.old).program model.now (run_of machine.old).cells (run_of machine.old) }
     requires stimulus { IsStimulus model.now stimulus.now }
     ensures { OnOk result (IsReady (run_of machine.old).program model.now
