@@ -4,3 +4,12 @@ pub mod Fitting
 pub mod Depths
 pub mod Distinct
 pub mod Free
+pub mod Apart
+pub mod Declaring
+pub mod Fit
+pub mod Behind
+pub mod Standing
+pub mod Orders
+pub mod Places
+pub mod Supported
+pub mod Constants

@@ -4,6 +4,7 @@
 pub mod examples;
 mod forms;
 mod known;
+mod laws;
 mod limits;
 mod numbers;
 mod ranges;
@@ -11,6 +12,7 @@ mod sames;
 mod values;
 
 pub use known::Known;
+pub use laws::types_are_a_table;
 pub use limits::{Bounds, Lengths, Limited};
 pub use numbers::enumerator_numbers;
 pub use values::Valued;
