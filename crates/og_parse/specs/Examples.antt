@@ -39,9 +39,9 @@ abbrev pub at : ℕ → Place
 at n = record { file = 0; line = 1; column = n }
 
 -- tokens one behind the other, the first at this column
-abbrev pub row : ℕ → List Token → List Spanned
-row n [] = []
-row n (t ∷ ts) = record { token = t; place = at n; start = n; end = n + 1 } ∷ row (n + 1) ts
+abbrev pub tokens_from : ℕ → List Token → List Spanned
+tokens_from n [] = []
+tokens_from n (t ∷ ts) = record { token = t; place = at n; start = n; end = n + 1 } ∷ tokens_from (n + 1) ts
 
 abbrev letter : ℕ → Word
 letter code = record { bytes = code ∷ [] }
@@ -76,45 +76,45 @@ by o n = joined (operation o (at n))
 -- a + b * c
 abbrev pub ProductInSum : Type 0
 ProductInSum =
-    IsExpr (by op.Add 2 (the (a_at 1)) (by op.Multiply 4 (the (b_at 3)) (the (c_at 5)))) (row 1 (a ∷ token.Mark mark.Plus ∷ b ∷ token.Mark mark.Asterisk ∷ c ∷ [])) []
+    IsExpr (by op.Add 2 (the (a_at 1)) (by op.Multiply 4 (the (b_at 3)) (the (c_at 5)))) (tokens_from 1 (a ∷ token.Mark mark.Plus ∷ b ∷ token.Mark mark.Asterisk ∷ c ∷ [])) []
 
 -- a - b - c
 abbrev pub SumToTheLeft : Type 0
 SumToTheLeft =
-    IsExpr (by op.Subtract 4 (by op.Subtract 2 (the (a_at 1)) (the (b_at 3))) (the (c_at 5))) (row 1 (a ∷ token.Mark mark.Minus ∷ b ∷ token.Mark mark.Minus ∷ c ∷ [])) []
+    IsExpr (by op.Subtract 4 (by op.Subtract 2 (the (a_at 1)) (the (b_at 3))) (the (c_at 5))) (tokens_from 1 (a ∷ token.Mark mark.Minus ∷ b ∷ token.Mark mark.Minus ∷ c ∷ [])) []
 
 -- a or b and c
 abbrev pub AndInOr : Type 0
-AndInOr = IsExpr (by op.Or 2 (the (a_at 1)) (by op.And 4 (the (b_at 3)) (the (c_at 5)))) (row 1 (a ∷ token.Keyword word.Or ∷ b ∷ token.Keyword word.And ∷ c ∷ [])) []
+AndInOr = IsExpr (by op.Or 2 (the (a_at 1)) (by op.And 4 (the (b_at 3)) (the (c_at 5)))) (tokens_from 1 (a ∷ token.Keyword word.Or ∷ b ∷ token.Keyword word.And ∷ c ∷ [])) []
 
 -- - a * b
 abbrev pub SignInProduct : Type 0
-SignInProduct = IsExpr (by op.Multiply 3 (plain (at 1) (Minus (the (a_at 2)))) (the (b_at 4))) (row 1 (token.Mark mark.Minus ∷ a ∷ token.Mark mark.Asterisk ∷ b ∷ [])) []
+SignInProduct = IsExpr (by op.Multiply 3 (plain (at 1) (Minus (the (a_at 2)))) (the (b_at 4))) (tokens_from 1 (token.Mark mark.Minus ∷ a ∷ token.Mark mark.Asterisk ∷ b ∷ [])) []
 
 -- a . state
 abbrev pub KeywordAsField : Type 0
 KeywordAsField =
-    IsExpr (variable_expr (variable (a_at 1) (record { place = at 2; kind = Dot (field.Keyword (at 3) word.State) } ∷ []))) (row 1 (a ∷ token.Mark mark.FullStop ∷ token.Keyword word.State ∷ [])) []
+    IsExpr (variable_expr (variable (a_at 1) (record { place = at 2; kind = Dot (field.Keyword (at 3) word.State) } ∷ []))) (tokens_from 1 (a ∷ token.Mark mark.FullStop ∷ token.Keyword word.State ∷ [])) []
 
 -- a : b : 5
 abbrev pub ChoiceOfChoice : Type 0
 ChoiceOfChoice =
-    IsExpr (plain (at 1) (Choice (a_at 1) (plain (at 3) (Choice (b_at 3) (plain (at 5) (Number 5)))))) (row 1 (a ∷ token.Mark mark.Colon ∷ b ∷ token.Mark mark.Colon ∷ token.Number 5 ∷ [])) []
+    IsExpr (plain (at 1) (Choice (a_at 1) (plain (at 3) (Choice (b_at 3) (plain (at 5) (Number 5)))))) (tokens_from 1 (a ∷ token.Mark mark.Colon ∷ b ∷ token.Mark mark.Colon ∷ token.Number 5 ∷ [])) []
 
 -- { }
 abbrev pub NoItems : Type 0
-NoItems = IsExpr (plain (at 1) (Sequence [])) (row 1 (token.Mark mark.LeftBrace ∷ token.Mark mark.RightBrace ∷ [])) []
+NoItems = IsExpr (plain (at 1) (Sequence [])) (tokens_from 1 (token.Mark mark.LeftBrace ∷ token.Mark mark.RightBrace ∷ [])) []
 
 -- { a , b }
 abbrev pub TwoItems : Type 0
 TwoItems =
-    IsExpr (plain (at 1) (Sequence (the (a_at 2) ∷ the (b_at 4) ∷ []))) (row 1 (token.Mark mark.LeftBrace ∷ a ∷ token.Mark mark.Comma ∷ b ∷ token.Mark mark.RightBrace ∷ [])) []
+    IsExpr (plain (at 1) (Sequence (the (a_at 2) ∷ the (b_at 4) ∷ []))) (tokens_from 1 (token.Mark mark.LeftBrace ∷ a ∷ token.Mark mark.Comma ∷ b ∷ token.Mark mark.RightBrace ∷ [])) []
 
 -- { a - 1 }, a component with a negative value
 abbrev pub NegativeComponent : Type 0
 NegativeComponent =
     IsExpr (plain (at 1) (Components (record { name = a_at 2; value = plain (at 3) (Minus (plain (at 4) (Number 1))) } ∷ [])))
-    (row 1 (token.Mark mark.LeftBrace ∷ a ∷ token.Mark mark.Minus ∷ token.Number 1 ∷ token.Mark mark.RightBrace ∷ [])) []
+    (tokens_from 1 (token.Mark mark.LeftBrace ∷ a ∷ token.Mark mark.Minus ∷ token.Number 1 ∷ token.Mark mark.RightBrace ∷ [])) []
 
 -- ---- steps
 
@@ -125,7 +125,7 @@ end_at n = record { place = at n; comment = None }
 abbrev pub LabelledTask : Type 0
 LabelledTask =
     IsStep (record { label = Some (a_at 1); place = at 3; action = Task (record { target = variable (b_at 4) []; value = assigned.Value (plain (at 6) (Number 1)) } ∷ []); «end» = end_at 7 })
-    (row 1 (a ∷ token.Mark mark.Colon ∷ token.Keyword word.Task ∷ b ∷ token.Mark mark.Assign ∷ token.Number 1 ∷ token.Mark mark.Semicolon ∷ [])) []
+    (tokens_from 1 (a ∷ token.Mark mark.Colon ∷ token.Keyword word.Task ∷ b ∷ token.Mark mark.Assign ∷ token.Number 1 ∷ token.Mark mark.Semicolon ∷ [])) []
 
 -- DECISION a ; ( 1 ) : ELSE : STOP ; ENDDECISION ;
 abbrev pub DecisionWithElse : Type 0
@@ -142,7 +142,7 @@ DecisionWithElse =
           }));
       «end» = end_at 13;
     })
-    (row 1 (token.Keyword word.Decision ∷ a ∷ token.Mark mark.Semicolon ∷ token.Mark mark.LeftParenthesis ∷ token.Number 1 ∷ token.Mark mark.RightParenthesis ∷ token.Mark mark.Colon ∷ token.Keyword word.Else
+    (tokens_from 1 (token.Keyword word.Decision ∷ a ∷ token.Mark mark.Semicolon ∷ token.Mark mark.LeftParenthesis ∷ token.Number 1 ∷ token.Mark mark.RightParenthesis ∷ token.Mark mark.Colon ∷ token.Keyword word.Else
     ∷ token.Mark mark.Colon ∷ token.Keyword word.Stop ∷ token.Mark mark.Semicolon ∷ token.Keyword word.Enddecision ∷ token.Mark mark.Semicolon ∷ [])) []
 
 -- ---- files
@@ -151,4 +151,4 @@ DecisionWithElse =
 abbrev pub HyphenedModule : Type 0
 HyphenedModule =
     IsUse (record { place = at 1; «module» = record { parts = a_at 2 ∷ b_at 4 ∷ [] }; «end» = end_at 5 })
-    (row 1 (token.Keyword word.Use ∷ a ∷ token.Mark mark.Minus ∷ b ∷ token.Mark mark.Semicolon ∷ [])) []
+    (tokens_from 1 (token.Keyword word.Use ∷ a ∷ token.Mark mark.Minus ∷ b ∷ token.Mark mark.Semicolon ∷ [])) []
