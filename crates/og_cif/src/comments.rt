@@ -95,7 +95,8 @@ fn later(last: Option<CifBox>, one: BoxEnd, place: Place) -> Option<CifBox>
     }
 }
 
-fn is_before(a: Place, b: Place) -> bool
+/// Whether the first place stands before the other: by file, then by line, then by column.
+pub fn is_before(a: Place, b: Place) -> bool
     ensures { result ≡ is_before a b }
 {
     a.file < b.file

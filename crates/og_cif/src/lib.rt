@@ -7,7 +7,7 @@ mod laws;
 mod read;
 mod symbols;
 
-pub use comments::attach;
+pub use comments::{attach, is_before};
 pub use examples::{boxes_are_read, others_are_plain};
 pub use laws::{lexed_comments_stand, one_list_of_boxes};
 use og_base::Place;

@@ -4,3 +4,4 @@ pub mod Joins
 pub mod TextLays
 pub mod ExpressionTexts
 pub mod ProgramTexts
+pub mod PrintedExample

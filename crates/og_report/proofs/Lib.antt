@@ -1,0 +1,4 @@
+pub mod Boxed
+pub mod Counting
+pub mod Joins
+pub mod Written
