@@ -1,6 +1,6 @@
 -- The box of a place, and that it is one.
-use Rattle.std.proofs.Common.{◌≡◌, ◌⊎◌, inl, inr, ℕ, List, refl, sym, ap, ◌∙◌, subst}
-use Rattle.std.specs.Prelude.{Option, None}
+use Rattle.std.proofs.Common.{◌≡◌, inl, inr, ℕ, List, sym, ap, ◌∙◌, subst}
+use Rattle.std.specs.Prelude.{Option}
 use Rattle.og_base.specs.declared.Place.{Place}
 use Rattle.og_base.specs.declared.Rule.{Rule}
 use Rattle.og_base.specs.declared.Violation.{Violation}
@@ -13,7 +13,7 @@ use Rattle.og_cif.specs.declared.BoxEnd.{BoxEnd}
 use Rattle.og_cif.specs.declared.CifBox.{CifBox}
 use Rattle.og_cif.specs.File.{AreBoxes, box_before}
 use Rattle.og_report.specs.declared.Report.{Report}
-use Rattle.og_report.specs.Report.{IsLastBoxOf, IsLastBox, HasNoBox, IsBoxFor, IsReportOf, bytes_before}
+use Rattle.og_report.specs.Report.{IsLastBox, IsBoxFor, IsReportOf, bytes_before}
 
 -- what the laws of tokens and of boxes say
 pub record Laws : Type 0 where

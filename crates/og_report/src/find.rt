@@ -48,12 +48,7 @@ fn box_for(
 }
 
 /// The tokens and comments of bytes in the language.
-fn lex(
-    alloc: Global,
-    language: Language,
-    file: u32,
-    bytes: &[u8],
-) -> Result<Lexed, ModelError>
+fn lex(alloc: Global, language: Language, file: u32, bytes: &[u8]) -> Result<Lexed, ModelError>
     requires { length bytes.now < 2 ^ 32 - 1 }
     ensures found { IfOk result (λ lexed. LexesIn language file bytes.now lexed.tokens lexed.comments) }
     ensures broken { IfErr result (RefusesIn language file bytes.now) }

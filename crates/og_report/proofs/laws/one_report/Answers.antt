@@ -1,5 +1,4 @@
-use Rattle.og_lexer.specs.declared.Language.TheVariants.{Sdl, Asn}
-use Rattle.og_report.proofs.Boxed.{Laws, same_report}
+use Rattle.og_report.proofs.Boxed.{same_report}
 use Rattle.og_report.proofs.laws.one_report.Goals as goal
 
 pub returns : goal.returns

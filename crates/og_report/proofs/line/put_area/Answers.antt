@@ -1,4 +1,4 @@
-use Rattle.std.proofs.Common.{rules, ◌≡◌, ◌++◌, ap, ap₂, ◌∙◌, w32, FitsSigned}
+use Rattle.std.proofs.Common.{rules, ◌++◌, ap, ap₂, ◌∙◌, w32, FitsSigned}
 use Rattle.std.proofs.lemmas.Int.{to_z-of_z}
 use Rattle.std.specs.Prelude.{codes}
 use Rattle.og_report.specs.Line.{area_text, pair_text}
