@@ -4,4 +4,3 @@ pub mod Joins
 pub mod TextLays
 pub mod ExpressionTexts
 pub mod ProgramTexts
-pub mod PrintedExample

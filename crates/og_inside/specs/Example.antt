@@ -1,5 +1,5 @@
--- A program that has a struct with an array, a switch, a pick and the least number, and its text by hand.
-use Rattle.std.specs.Prelude.{ℕ, pos, List, [], ◌∷◌, ◌++◌, ◌≡◌, Some, None, codes}
+-- A program that has a struct with an array, a switch, a pick and the least number, to try the printer on.
+use Rattle.std.specs.Prelude.{pos, List, [], ◌∷◌, Some, None, codes}
 use Rattle.og_csubset.specs.declared.CProgram.{CProgram}
 use Rattle.og_csubset.specs.declared.CStruct.{CStruct}
 use Rattle.og_csubset.specs.declared.CGlobal.{CGlobal}
@@ -13,7 +13,6 @@ use Rattle.og_csubset.specs.declared.CTest.{CTest}
 use Rattle.og_csubset.specs.declared.COp.TheVariants.{Sub}
 use Rattle.og_csubset.specs.declared.CRel.TheVariants.{Lt}
 use Rattle.og_csubset.specs.Spelling.{word, least}
-use Rattle.og_cprint.specs.Printed.{printed_text}
 
 -- `count`
 abbrev pub count : CExpr
@@ -62,40 +61,3 @@ example = record {
   events = word (codes "done") ∷ [];
   functions = record { name = word (codes "start"); body = example_body } ∷ [];
 }
-
--- these lines, each with its end
-abbrev lines : List (List ℕ) → List ℕ
-lines [] = []
-lines (l ∷ ls) = l ++ 10 ∷ lines ls
-
--- as a person would write it
-abbrev pub example_text : List ℕ
-example_text = lines (
-    codes "#include <stdint.h>" ∷
-    codes "" ∷
-    codes "typedef struct {" ∷
-    codes "    int64_t n;" ∷
-    codes "    int64_t list[3];" ∷
-    codes "} Pair;" ∷
-    codes "" ∷
-    codes "Pair pair;" ∷
-    codes "int64_t count;" ∷
-    codes "" ∷
-    codes "void done(void);" ∷
-    codes "" ∷
-    codes "void start(void)" ∷
-    codes "{" ∷
-    codes "again:;" ∷
-    codes "    pair.list[count] = (count < INT64_C(0) ? (-INT64_C(9223372036854775807) - INT64_C(1)) : count - -count);" ∷
-    codes "    switch (count) {" ∷
-    codes "    case INT64_C(0): goto again;" ∷
-    codes "    case (-INT64_C(9223372036854775807) - INT64_C(1)): goto end;" ∷
-    codes "    default: goto end;" ∷
-    codes "    }" ∷
-    codes "end:;" ∷
-    codes "    done();" ∷
-    codes "    return;" ∷
-    codes "}" ∷ [])
-
-abbrev pub PrintedAsAPersonWould : Type 0
-PrintedAsAPersonWould = printed_text example ≡ example_text
