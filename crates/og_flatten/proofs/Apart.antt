@@ -17,7 +17,9 @@ use Rattle.og_csubset.specs.Interface.{name_of}
 use Rattle.og_csubset.specs.Kinds.{is_in}
 use Rattle.og_csubset.specs.Loading.{has_twice}
 use Rattle.og_csubset.specs.Fair.{names_of}
-use Rattle.og_flatten.specs.FlatCode.{event_word, signal_function, signal_functions, code_of}
+use Rattle.og_flatten.specs.FlatCode.{event_word, signal_function, signal_functions}
+use Rattle.og_flatten.specs.Slots.{control_of}
+use Rattle.og_flatten.proofs.PlainSlots.{plain_code}
 use Rattle.og_flatten.proofs.Made.{IsMade}
 use Rattle.og_flatten.proofs.Tests.{neither, all_by, any_append}
 use Rattle.og_names.proofs.Truths.{both_first as left_of, both_second as right_of, not_true}
@@ -42,7 +44,7 @@ abbrev are_known : Model → List Signal → Bool
 are_known model signals = list_all (λ (s : Signal). is_known model s.name) signals
 
 abbrev all_functions : Model → List (List ℕ)
-all_functions model = codes "transition" ∷ codes "start" ∷ names_of_functions (signal_functions model 0 model.signals)
+all_functions model = codes "transition" ∷ codes "start" ∷ names_of_functions (signal_functions (control_of model) model 0 model.signals)
 
 -- the name that stands at a number
 there : (names : List (List ℕ)) (k : ℕ) → k < length names → slice_get names k ≡ Some (unwrap_or (slice_get names k) [])
@@ -90,7 +92,7 @@ module _ (model : Model) (made : IsMade model) where
       (events_apart others free twice signals (right_of _ _ all) (right_of _ _ differ))
 
   function_if_new : (name : List ℕ) (k : ℕ) (s : Signal) (b : Bool) (functions : List FlatFn) → bytes_eq name (codes "on_" ++ name_of model s.name) ≡ false
-      → is_in name (names_of_functions functions) ≡ false → is_in name (names_of_functions (cond b (signal_function model k s ∷ []) [] ++ functions)) ≡ false
+      → is_in name (names_of_functions functions) ≡ false → is_in name (names_of_functions (cond b (signal_function (control_of model) model k s ∷ []) [] ++ functions)) ≡ false
   function_if_new name k s true functions this others = ap (λ b. b || is_in name (names_of_functions functions)) this ∙ others
   function_if_new name k s false functions this others = others
 
@@ -103,30 +105,30 @@ module _ (model : Model) (made : IsMade model) where
 
   -- a name that no function of a signal has
   not_on : (name : List ℕ) → ((w : List ℕ) → bytes_eq name (codes "on_" ++ w) ≡ false) → (k : ℕ) (signals : List Signal)
-      → is_in name (names_of_functions (signal_functions model k signals)) ≡ false
+      → is_in name (names_of_functions (signal_functions (control_of model) model k signals)) ≡ false
   not_on name free k [] = refl
   not_on name free k (s ∷ signals) =
-      function_if_new name k s s.incoming (signal_functions model (k + 1) signals) (free (name_of model s.name)) (not_on name free (k + 1) signals)
+      function_if_new name k s s.incoming (signal_functions (control_of model) model (k + 1) signals) (free (name_of model s.name)) (not_on name free (k + 1) signals)
 
   function_new : (s : Signal) → is_known model s.name ≡ true → (k : ℕ) (signals : List Signal) → are_known model signals ≡ true
       → list_any (same_name s.name) (ids_of signals) ≡ false
-      → is_in (codes "on_" ++ name_of model s.name) (names_of_functions (signal_functions model k signals)) ≡ false
+      → is_in (codes "on_" ++ name_of model s.name) (names_of_functions (signal_functions (control_of model) model k signals)) ≡ false
   function_new s known k [] all new = refl
   function_new s known k (t ∷ signals) all new =
       let apart : (same_name s.name t.name ≡ false) × (list_any (same_name s.name) (ids_of signals) ≡ false) = neither _ _ new in
-      function_if_new (codes "on_" ++ name_of model s.name) k t t.incoming (signal_functions model (k + 1) signals)
+      function_if_new (codes "on_" ++ name_of model s.name) k t t.incoming (signal_functions (control_of model) model (k + 1) signals)
       (other_bytes s.name t.name known (left_of _ _ all) apart.0) (function_new s known (k + 1) signals (right_of _ _ all) apart.1)
 
   function_if_apart : (k : ℕ) (s : Signal) (b : Bool) (functions : List FlatFn) → is_in (codes "on_" ++ name_of model s.name) (names_of_functions functions) ≡ false
-      → has_twice (names_of_functions functions) ≡ false → has_twice (names_of_functions (cond b (signal_function model k s ∷ []) [] ++ functions)) ≡ false
+      → has_twice (names_of_functions functions) ≡ false → has_twice (names_of_functions (cond b (signal_function (control_of model) model k s ∷ []) [] ++ functions)) ≡ false
   function_if_apart k s true functions new others = twice_one (codes "on_" ++ name_of model s.name) (names_of_functions functions) new others
   function_if_apart k s false functions new others = others
 
   functions_apart : (k : ℕ) (signals : List Signal) → are_known model signals ≡ true
-      → all_differ same_name (ids_of signals) ≡ true → has_twice (names_of_functions (signal_functions model k signals)) ≡ false
+      → all_differ same_name (ids_of signals) ≡ true → has_twice (names_of_functions (signal_functions (control_of model) model k signals)) ≡ false
   functions_apart k [] all differ = refl
   functions_apart k (s ∷ signals) all differ =
-      function_if_apart k s s.incoming (signal_functions model (k + 1) signals)
+      function_if_apart k s s.incoming (signal_functions (control_of model) model (k + 1) signals)
       (function_new s (left_of _ _ all) (k + 1) signals (right_of _ _ all) (not_true _ (left_of _ _ differ)))
       (functions_apart (k + 1) signals (right_of _ _ all) (right_of _ _ differ))
 
@@ -149,12 +151,12 @@ module _ (model : Model) (made : IsMade model) where
   free name event function transition start =
       any_append (bytes_eq name) (names_of_events model model.signals) (all_functions model)
       (not_o name event model.signals)
-      (ap (λ b. b || (bytes_eq name (codes "start") || is_in name (names_of_functions (signal_functions model 0 model.signals)))) transition
-      ∙ ap (λ b. b || is_in name (names_of_functions (signal_functions model 0 model.signals))) start ∙ not_on name function 0 model.signals)
+      (ap (λ b. b || (bytes_eq name (codes "start") || is_in name (names_of_functions (signal_functions (control_of model) model 0 model.signals)))) transition
+      ∙ ap (λ b. b || is_in name (names_of_functions (signal_functions (control_of model) model 0 model.signals))) start ∙ not_on name function 0 model.signals)
 
-  pub apart : not (has_twice (names_of (code_of model))) ≡ true
+  pub apart : not (has_twice (names_of (plain_code model))) ≡ true
   apart =
-      let functions : List (List ℕ) = names_of_functions (signal_functions model 0 model.signals) in
+      let functions : List (List ℕ) = names_of_functions (signal_functions (control_of model) model 0 model.signals) in
       let names : List (List ℕ) = names_of_events model model.signals ++ all_functions model in
       let one : has_twice (codes "start" ∷ functions) ≡ false =
       twice_one (codes "start") functions (not_on (codes "start") (λ w. refl) 0 model.signals) (functions_apart 0 model.signals known_signals different_signals) in

@@ -11,7 +11,8 @@ use Rattle.og_csubset.proofs.PacedRuns.{paced_at_one}
 use Rattle.og_flatten.specs.Code.{enough_at}
 use Rattle.og_flatten.specs.FlatCode.{code_of}
 use Rattle.og_follow.proofs.Agreeing.{same_runs}
-use Rattle.og_flatten.proofs.Simulation.{IsBasic, Rests, Halts, simulates}
+use Rattle.og_flatten.proofs.Standings.{IsBasic}
+use Rattle.og_flatten.proofs.Simulation.{Rests, Halts, simulates}
 use Rattle.og_flatten.proofs.Transitions.{machine_of}
 
 pub runs : (model : Model) → IsBasic model → (pace : Pace) → IsPace pace

@@ -3,6 +3,7 @@ use Rattle.std.proofs.Common.{refl, arith}
 use Rattle.og_model.specs.declared.Model.{Model}
 use Rattle.og_csubset.specs.Fair.{Fair}
 use Rattle.og_flatten.specs.FlatCode.{code_of}
+use Rattle.og_flatten.proofs.PlainSlots.{by_slots}
 use Rattle.og_flatten.proofs.Made.{IsMade}
 use Rattle.og_flatten.proofs.Right.{functions_right}
 use Rattle.og_flatten.proofs.Instructions.{shallow}
@@ -12,7 +13,7 @@ use Rattle.og_flatten.proofs.Named.{named, labelled}
 use Rattle.og_flatten.proofs.Apart.{apart}
 
 pub fair : (model : Model) → IsMade model → Fair (code_of model) model
-fair model made = record {
+fair model made = by_slots model made.basic (λ ir. Fair ir model) (record {
   types = made.formed.resolved.types;
   supported = refl;
   right = functions_right model made;
@@ -26,4 +27,4 @@ fair model made = record {
   events = events model made;
   values = values model made;
   functions = functions model made;
-}
+})

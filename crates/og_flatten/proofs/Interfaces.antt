@@ -26,6 +26,7 @@ use Rattle.og_csubset.specs.Interface as interface
 use Rattle.og_csubset.specs.Fair.{Fair, names_of}
 use Rattle.og_csubset.specs.FlatRun.{slot_names, flat_function_names, flat_event}
 use Rattle.og_csubset.specs.Reads.{Globals, event_shown, event_named, event_of, values_of}
+use Rattle.og_flatten.specs.Slots.{control_of}
 use Rattle.og_flatten.specs.FlatCode.{code_of, event_word, signal_function, function_if_incoming, signal_functions}
 use Rattle.og_flatten.proofs.Basic.{every, empty_is}
 use Rattle.og_names.proofs.Truths.{neither_first as or_left, neither_second as or_right, neither_true as both_false, same_value as some_is}
@@ -83,19 +84,19 @@ once_before [] ys h = refl
 once_before (x ∷ xs) ys h =
     both_false (is_in x xs) (has_twice xs) (in_fewer x xs ys (or_left (is_in x (xs ++ ys)) (has_twice (xs ++ ys)) h)) (once_before xs ys (or_right (is_in x (xs ++ ys)) (has_twice (xs ++ ys)) h))
 
-not_true : (b : Bool) → IsTrue (not b) → b ≡ false
+pub not_true : (b : Bool) → IsTrue (not b) → b ≡ false
 not_true true h = absurd (false≢true h)
 not_true false h = refl
 
 pub functions_once : (M : Model) → Fair (code_of M) M → has_twice (flat_function_names (code_of M)) ≡ false
 functions_once M fair =
     let all = not_true (has_twice (names_of (code_of M))) fair.differ in
-    once_behind (map (λ (e : Word). e.bytes) (code_of M).events) (flat_function_names (code_of M)) (once_behind (slot_names (code_of M)) (map (λ (e : Word). e.bytes) (code_of M).events ++ flat_function_names (code_of M)) all)
+    once_behind (slot_names (code_of M) ++ map (λ (e : Word). e.bytes) (code_of M).events) (flat_function_names (code_of M)) all
 
 pub events_once : (M : Model) → Fair (code_of M) M → has_twice (map (λ (e : Word). e.bytes) (code_of M).events) ≡ false
 events_once M fair =
     let all = not_true (has_twice (names_of (code_of M))) fair.differ in
-    once_before (map (λ (e : Word). e.bytes) (code_of M).events) (flat_function_names (code_of M)) (once_behind (slot_names (code_of M)) (map (λ (e : Word). e.bytes) (code_of M).events ++ flat_function_names (code_of M)) all)
+    once_behind (slot_names (code_of M)) (map (λ (e : Word). e.bytes) (code_of M).events) (once_before (slot_names (code_of M) ++ map (λ (e : Word). e.bytes) (code_of M).events) (flat_function_names (code_of M)) all)
 
 -- ---- functions
 
@@ -106,44 +107,44 @@ start_placed M fair = place_of (flat_function_names (code_of M)) 1 interface.sta
 -- The function of a signal.
 pub record SignalAt (M : Model) (k : ℕ) (s : Signal) : Type 0 where
   pub function : ℕ
-  pub at : slice_get (code_of M).functions function ≡ Some (signal_function M k s)
+  pub at : slice_get (code_of M).functions function ≡ Some (signal_function (control_of M) M k s)
   pub placed : place_in (interface.signal_function M k) (flat_function_names (code_of M)) ≡ Some function
   pub other : function ≡ 0 → ⊥
 
 abbrev Among : Model → ℕ → List FlatFn → Signal → Type 0
-Among M k functions s = (i : ℕ) × (slice_get functions i ≡ Some (signal_function M k s))
+Among M k functions s = (i : ℕ) × (slice_get functions i ≡ Some (signal_function (control_of M) M k s))
 
-behind_one : (M : Model) (n k : ℕ) (c s : Signal) (functions : List FlatFn) → Among M k functions s → Among M k (function_if_incoming M n c ++ functions) s
+behind_one : (M : Model) (n k : ℕ) (c s : Signal) (functions : List FlatFn) → Among M k functions s → Among M k (function_if_incoming (control_of M) M n c ++ functions) s
 behind_one M n k c s functions found = by_test c.incoming
   where
-    by_test : (b : Bool) → Among M k (cond b (signal_function M n c ∷ []) [] ++ functions) s
+    by_test : (b : Bool) → Among M k (cond b (signal_function (control_of M) M n c ∷ []) [] ++ functions) s
     by_test true = (suc found.0, found.1)
     by_test false = found
 
-among : (M : Model) (n k : ℕ) (signals : List Signal) (s : Signal) → slice_get signals k ≡ Some s → s.incoming ≡ true → Among M (n + k) (signal_functions M n signals) s
+among : (M : Model) (n k : ℕ) (signals : List Signal) (s : Signal) → slice_get signals k ≡ Some s → s.incoming ≡ true → Among M (n + k) (signal_functions (control_of M) M n signals) s
 among M n k [] s at incoming = absurd (none-some s at)
 among M n zero (c ∷ signals) s at incoming =
     let is = some_is c s at in
-    subst (λ d. Among M (n + zero) (function_if_incoming M n c ++ signal_functions M (n + 1) signals) d) is (
+    subst (λ d. Among M (n + zero) (function_if_incoming (control_of M) M n c ++ signal_functions (control_of M) M (n + 1) signals) d) is (
       0,
-      ap (λ b. slice_get (cond b (signal_function M n c ∷ []) [] ++ signal_functions M (n + 1) signals) 0) (ap (λ (d : Signal). d.incoming) is ∙ incoming)
-          ∙ ap (λ m. Some (signal_function M m c)) (plus_zero n),
+      ap (λ b. slice_get (cond b (signal_function (control_of M) M n c ∷ []) [] ++ signal_functions (control_of M) M (n + 1) signals) 0) (ap (λ (d : Signal). d.incoming) is ∙ incoming)
+          ∙ ap (λ m. Some (signal_function (control_of M) M m c)) (plus_zero n),
     )
   where
     plus_zero : (n : ℕ) → n ≡ n + zero
     plus_zero n = omega (arith)
 among M n (suc k) (c ∷ signals) s at incoming =
-    subst (λ m. Among M m (function_if_incoming M n c ++ signal_functions M (n + 1) signals) s) (shift n k)
-    (behind_one M n (n + 1 + k) c s (signal_functions M (n + 1) signals) (among M (n + 1) k signals s at incoming))
+    subst (λ m. Among M m (function_if_incoming (control_of M) M n c ++ signal_functions (control_of M) M (n + 1) signals) s) (shift n k)
+    (behind_one M n (n + 1 + k) c s (signal_functions (control_of M) M (n + 1) signals) (among M (n + 1) k signals s at incoming))
   where
     shift : (n k : ℕ) → n + 1 + k ≡ n + suc k
     shift n k = omega (arith)
 
 pub signal_at : (M : Model) → Fair (code_of M) M → (k : ℕ) (s : Signal) → slice_get M.signals k ≡ Some s → s.incoming ≡ true → SignalAt M k s
 signal_at M fair k s at incoming =
-    let found = subst (λ m. Among M m (signal_functions M 0 M.signals) s) (none_more k) (among M 0 k M.signals s at incoming) in
+    let found = subst (λ m. Among M m (signal_functions (control_of M) M 0 M.signals) s) (none_more k) (among M 0 k M.signals s at incoming) in
     let f = suc (suc found.0) in
-    let named : interface.signal_function M k ≡ (signal_function M k s).name.bytes =
+    let named : interface.signal_function M k ≡ (signal_function (control_of M) M k s).name.bytes =
     ap (λ o. codes "on_" ++ interface.name_if M (interface.signal_id o)) at in
     record {
       function = f;
@@ -232,14 +233,6 @@ no_inputs M basic k s at = ap (interface.parameters_from 1 (codes "i_" ++ interf
 
 abbrev pub leaf_of : StateDef → Leaf
 leaf_of d = record { path = d.name ∷ []; basic = true }
-
-pub leaf_at : (within : _ → Insides) (states : List StateDef) (k : ℕ) (d : StateDef) → ((i : ℕ) (x : StateDef) → slice_get states i ≡ Some x → state_insides within x ≡ record { leaves = leaf_of x ∷ []; regions = [] }) → slice_get states k ≡ Some d → slice_get (states_insides within states).leaves k ≡ Some (leaf_of d)
-leaf_at within [] k d basic at = absurd (none-some d at)
-leaf_at within (c ∷ states) zero d basic at =
-    ap (λ (x : Insides). slice_get (x.leaves ++ (states_insides within states).leaves) 0) (basic 0 c refl) ∙ ap (λ x. Some (leaf_of x)) (some_is c d at)
-leaf_at within (c ∷ states) (suc k) d basic at =
-    ap (λ (x : Insides). slice_get (x.leaves ++ (states_insides within states).leaves) (suc k)) (basic 0 c refl)
-    ∙ leaf_at within states k d (λ i x e. basic (suc i) x e) at
 
 pub no_regions : (within : _ → Insides) (states : List StateDef) → ((i : ℕ) (x : StateDef) → slice_get states i ≡ Some x → state_insides within x ≡ record { leaves = leaf_of x ∷ []; regions = [] }) → (states_insides within states).regions ≡ []
 no_regions within [] basic = refl

@@ -23,7 +23,9 @@ use Rattle.og_csubset.specs.Tokens.{is_letter, is_word_byte, is_word, is_name}
 use Rattle.og_csubset.specs.Interface.{name_of, name_if, signal_id}
 use Rattle.og_csubset.specs.Fair.{is_label, is_labelled, names_of}
 use Rattle.og_csubset.specs.FlatRun.{flat_function_names}
-use Rattle.og_flatten.specs.FlatCode.{bodies_of, states_of, steps_of, handler_in, word, no_label, trigger_name, handler_label, with_handlers, with_states, start_words, body_labels, labels_of_body, word_at, labels_of_bodies, entering_labels, end_label, transition_labels, handled_labels, choices_labels, signal_labels, length_of_bodies, transition_function, handled_code, choices_code, transition_code, signal_code, event_word, signal_function, signal_functions, functions_of, code_of}
+use Rattle.og_flatten.specs.FlatCode.{bodies_of, states_of, steps_of, handler_in, word, no_label, trigger_name, handler_label, with_handlers, with_states, start_words, body_labels, labels_of_body, word_at, labels_of_bodies, entering_labels, end_label, transition_labels, handled_labels, choices_labels, signal_labels, length_of_bodies, transition_function, handled_code, choices_code, transition_code, signal_code, event_word, signal_function, signal_functions, functions_of}
+use Rattle.og_flatten.specs.Slots.{control_of}
+use Rattle.og_flatten.proofs.PlainSlots.{plain_code}
 use Rattle.og_flatten.proofs.Made.{IsMade}
 use Rattle.og_flatten.proofs.Tests.{all_append, all_always, all_map, all_by}
 use Rattle.og_flatten.proofs.Parts.{parts}
@@ -84,22 +86,22 @@ abbrev are_named : List FlatFn → Bool
 are_named functions = list_all (λ (f : FlatFn). is_name f.name.bytes) functions
 
 if_named : (model : Model) → IsMade model → (k : ℕ) (s : Signal) (b : Bool) (functions : List FlatFn) → are_named functions ≡ true
-    → are_named (cond b (signal_function model k s ∷ []) [] ++ functions) ≡ true
+    → are_named (cond b (signal_function (control_of model) model k s ∷ []) [] ++ functions) ≡ true
 if_named model made k s true functions others = and_from _ _ (function_named model made s.name) others
 if_named model made k s false functions others = others
 
-functions_named : (model : Model) → IsMade model → (k : ℕ) (signals : List Signal) → are_named (signal_functions model k signals) ≡ true
+functions_named : (model : Model) → IsMade model → (k : ℕ) (signals : List Signal) → are_named (signal_functions (control_of model) model k signals) ≡ true
 functions_named model made k [] = refl
 functions_named model made k (s ∷ signals) =
-    if_named model made k s s.incoming (signal_functions model (k + 1) signals) (functions_named model made (k + 1) signals)
+    if_named model made k s s.incoming (signal_functions (control_of model) model (k + 1) signals) (functions_named model made (k + 1) signals)
 
-pub named : (model : Model) → IsMade model → list_all is_name (names_of (code_of model)) ≡ true
+pub named : (model : Model) → IsMade model → list_all is_name (names_of (plain_code model)) ≡ true
 named model made =
-    all_append is_name (map (λ (e : Word). e.bytes) (map (event_word model) model.signals)) (flat_function_names (code_of model))
+    all_append is_name (map (λ (e : Word). e.bytes) (map (event_word model) model.signals)) (flat_function_names (plain_code model))
     (all_map is_name (λ (e : Word). e.bytes) (map (event_word model) model.signals)
     (all_map (λ (e : Word). is_name e.bytes) (event_word model) model.signals
     (all_always (λ (s : Signal). is_name (event_word model s).bytes) (λ s. event_named model made s.name) model.signals)))
-    (all_map is_name (λ (f : FlatFn). f.name.bytes) (signal_functions model 0 model.signals) (functions_named model made 0 model.signals))
+    (all_map is_name (λ (f : FlatFn). f.name.bytes) (signal_functions (control_of model) model 0 model.signals) (functions_named model made 0 model.signals))
 
 -- ---- labels
 
@@ -191,7 +193,7 @@ module _ (model : Model) (made : IsMade model) where
   length-entering_labels [] = refl
   length-entering_labels (d ∷ states) = let more = length-entering_labels states in omega (arith, more)
 
-  length-transition_labels : length (transition_labels model) ≡ length (transition_code model)
+  length-transition_labels : length (transition_labels model) ≡ length (transition_code (control_of model) model)
   length-transition_labels =
       let bodies : List Word = labels_of_bodies (body_labels model) 0 (bodies_of model) in
       let entering : List Word = entering_labels model (states_of model) in
@@ -202,47 +204,47 @@ module _ (model : Model) (made : IsMade model) where
       let code = length-transition_code model in
       omega (arith, both, last, one, two, code)
 
-  length-handled_labels : (d : StateDef) (o : Option Handler) → length (handled_labels model d o) ≡ length (handled_code o)
+  length-handled_labels : (d : StateDef) (o : Option Handler) → length (handled_labels model d o) ≡ length (handled_code (control_of model) o)
   length-handled_labels d None = refl
   length-handled_labels d (Some h) = refl
 
-  length-choices_labels : (signal : ℕ) (states : List StateDef) → length (choices_labels model signal states) ≡ length (choices_code signal states)
+  length-choices_labels : (signal : ℕ) (states : List StateDef) → length (choices_labels model signal states) ≡ length (choices_code (control_of model) signal states)
   length-choices_labels signal [] = refl
   length-choices_labels signal (d ∷ states) =
       let o : Option Handler = handler_in signal d.handlers in
       let here = length-handled_labels d o in
       let more = length-choices_labels signal states in
       let labels = length-append (handled_labels model d o) (choices_labels model signal states) in
-      let code = length-append (handled_code o) (choices_code signal states) in
+      let code = length-append (handled_code (control_of model) o) (choices_code (control_of model) signal states) in
       omega (arith, here, more, labels, code)
 
-  length-signal_labels : (signal : ℕ) → length (signal_labels model signal) ≡ length (signal_code model signal)
+  length-signal_labels : (signal : ℕ) → length (signal_labels model signal) ≡ length (signal_code (control_of model) model signal)
   length-signal_labels signal =
       let labels = length-append (choices_labels model signal (states_of model)) end_label in
       let same = length-choices_labels signal (states_of model) in
       let code = length-signal_code model signal in
       omega (arith, labels, same, code)
 
-  transition_labelled : is_labelled (transition_function model) ≡ true
+  transition_labelled : is_labelled (transition_function (control_of model) model) ≡ true
   transition_labelled =
-      and_from _ _ (eq-eqb (length (transition_labels model)) (length (transition_code model)) length-transition_labels)
+      and_from _ _ (eq-eqb (length (transition_labels model)) (length (transition_code (control_of model) model)) length-transition_labels)
       (all_append is_labelling (labels_of_bodies (body_labels model) 0 (bodies_of model)) (entering_labels model (states_of model) ++ end_label)
       (labels_are (body_labels model) body_labels_are 0 (bodies_of model))
       (all_append is_labelling (entering_labels model (states_of model)) end_label (entering_are (states_of model)) refl))
 
-  signal_labelled : (k : ℕ) (s : Signal) → is_labelled (signal_function model k s) ≡ true
+  signal_labelled : (k : ℕ) (s : Signal) → is_labelled (signal_function (control_of model) model k s) ≡ true
   signal_labelled k s =
-      and_from _ _ (eq-eqb (length (signal_labels model k)) (length (signal_code model k)) (length-signal_labels k))
+      and_from _ _ (eq-eqb (length (signal_labels model k)) (length (signal_code (control_of model) model k)) (length-signal_labels k))
       (all_append is_labelling (choices_labels model k (states_of model)) end_label (choices_are k (states_of model) (parts model made).named) refl)
 
   if_labelled : (k : ℕ) (s : Signal) (b : Bool) (functions : List FlatFn) → list_all is_labelled functions ≡ true
-      → list_all is_labelled (cond b (signal_function model k s ∷ []) [] ++ functions) ≡ true
+      → list_all is_labelled (cond b (signal_function (control_of model) model k s ∷ []) [] ++ functions) ≡ true
   if_labelled k s true functions others = and_from _ _ (signal_labelled k s) others
   if_labelled k s false functions others = others
 
-  signals_labelled : (k : ℕ) (signals : List Signal) → list_all is_labelled (signal_functions model k signals) ≡ true
+  signals_labelled : (k : ℕ) (signals : List Signal) → list_all is_labelled (signal_functions (control_of model) model k signals) ≡ true
   signals_labelled k [] = refl
-  signals_labelled k (s ∷ signals) = if_labelled k s s.incoming (signal_functions model (k + 1) signals) (signals_labelled (k + 1) signals)
+  signals_labelled k (s ∷ signals) = if_labelled k s s.incoming (signal_functions (control_of model) model (k + 1) signals) (signals_labelled (k + 1) signals)
 
-  pub labelled : list_all is_labelled (functions_of model) ≡ true
+  pub labelled : list_all is_labelled (functions_of (control_of model) model) ≡ true
   labelled = and_from _ _ transition_labelled (signals_labelled 0 model.signals)

@@ -16,7 +16,9 @@ use Rattle.og_csubset.specs.Interface as interface
 use Rattle.og_csubset.specs.Interface.{name_of, name_if, signal_id, signal_name, numbers_below, incoming_from, incoming, event_name, events_of, timer_function, functions_of}
 use Rattle.og_csubset.specs.Kinds.{is_in}
 use Rattle.og_csubset.specs.FlatRun.{flat_function_names}
-use Rattle.og_flatten.specs.FlatCode.{event_word, signal_function, signal_functions, code_of}
+use Rattle.og_flatten.specs.FlatCode.{event_word, signal_function, signal_functions}
+use Rattle.og_flatten.specs.Slots.{control_of}
+use Rattle.og_flatten.proofs.PlainSlots.{plain_code}
 use Rattle.og_flatten.proofs.Made.{IsMade}
 use Rattle.og_flatten.proofs.Tests.{all_append, all_by}
 
@@ -60,16 +62,16 @@ names_of_functions functions = map (λ (f : FlatFn). f.name.bytes) functions
 
 one_more : (model : Model) (k : ℕ) (s : Signal) (b : Bool) (functions : List FlatFn) (ks : List ℕ) → signal_name model k ≡ name_of model s.name
     → names_of_functions functions ≡ map (interface.signal_function model) ks
-    → names_of_functions (cond b (signal_function model k s ∷ []) [] ++ functions) ≡ map (interface.signal_function model) ((if b then k ∷ [] else []) ++ ks)
+    → names_of_functions (cond b (signal_function (control_of model) model k s ∷ []) [] ++ functions) ≡ map (interface.signal_function model) ((if b then k ∷ [] else []) ++ ks)
 one_more model k s true functions ks named others =
     ap (λ name. (codes "on_" ++ name) ∷ names_of_functions functions) (sym named) ∙ ap (λ names. (codes "on_" ++ signal_name model k) ∷ names) others
 one_more model k s false functions ks named others = others
 
 pub functions_from : (model : Model) (k : ℕ) (signals : List Signal) → From model k signals
-    → names_of_functions (signal_functions model k signals) ≡ map (interface.signal_function model) (incoming_from k signals)
+    → names_of_functions (signal_functions (control_of model) model k signals) ≡ map (interface.signal_function model) (incoming_from k signals)
 functions_from model k [] from = refl
 functions_from model k (s ∷ signals) from =
-    one_more model k s s.incoming (signal_functions model (k + 1) signals) (incoming_from (k + 1) signals) (name_at model k s signals from)
+    one_more model k s s.incoming (signal_functions (control_of model) model (k + 1) signals) (incoming_from (k + 1) signals) (name_at model k s signals from)
     (functions_from model (k + 1) signals (the_others model k s signals from))
 
 same_bytes : (name : List ℕ) → bytes_eq name name ≡ true
@@ -84,10 +86,10 @@ all_in (name ∷ names) =
     and_from _ _ (ap (λ b. b || is_in name names) (same_bytes name))
     (all_by (λ other. is_in other names) (λ other. is_in other (name ∷ names)) (λ other is. in_more other name names is) names (all_in names))
 
-pub functions : (model : Model) → IsMade model → list_all (λ name. is_in name (flat_function_names (code_of model))) (functions_of model) ≡ true
+pub functions : (model : Model) → IsMade model → list_all (λ name. is_in name (flat_function_names (plain_code model))) (functions_of model) ≡ true
 functions model made =
-    let found : List ℕ → Bool = λ name. is_in name (flat_function_names (code_of model)) in
-    let names : List (List ℕ) = names_of_functions (signal_functions model 0 model.signals) in
+    let found : List ℕ → Bool = λ name. is_in name (flat_function_names (plain_code model)) in
+    let names : List (List ℕ) = names_of_functions (signal_functions (control_of model) model 0 model.signals) in
     all_append found (map (interface.signal_function model) (incoming model)) (map (timer_function model) (numbers_below (length model.timers)))
     (ap (list_all found) (sym (functions_from model 0 model.signals (all_signals model)))
     ∙ all_by (λ name. is_in name names) found

@@ -12,7 +12,8 @@ use Rattle.og_ir.specs.declared.Instr.TheVariants as instr
 use Rattle.og_ir.specs.declared.Case.{Case}
 use Rattle.og_ir.specs.Arithmetic.{is_same}
 use Rattle.og_ir.specs.FlatSteps.{case_of}
-use Rattle.og_flatten.specs.FlatCode.{steps_of, end_of, handler_in, sets, region, body_length, length_of_bodies, body_cases, step_at, ending_at, body_at, bodies_at, entering_code, choice_code, handled_code, choices_code, handled_case, choice_cases}
+use Rattle.og_flatten.specs.FlatCode.{steps_of, end_of, handler_in, sets, region, body_length, length_of_bodies, body_cases, step_at, ending_at, body_at, bodies_at, entering_code, choice_code, handled_length, handled_code, choices_code, handled_case, choice_cases}
+use Rattle.og_flatten.specs.declared.code.Control.{Control}
 use Rattle.og_names.proofs.Truths.{same_value as some_is}
 
 pub same_number : (a : ℕ) → is_same (pos a) (pos a) ≡ true
@@ -32,11 +33,11 @@ abbrev pub HasAt : {A : Type 0} → List A → ℕ → List A → Type 0
 HasAt code place [] = Unit {0}
 HasAt code place (i ∷ is) = (slice_get code place ≡ Some i) × HasAt code (place + 1) is
 
-get_behind : {A : Type 0} (before rest : List A) (i : A) → slice_get (before ++ i ∷ rest) (length before) ≡ Some i
+pub get_behind : {A : Type 0} (before rest : List A) (i : A) → slice_get (before ++ i ∷ rest) (length before) ≡ Some i
 get_behind [] rest i = refl
 get_behind (b ∷ before) rest i = get_behind before rest i
 
-length_more : {A : Type 0} (before : List A) (i : A) → length (before ++ i ∷ []) ≡ length before + 1
+pub length_more : {A : Type 0} (before : List A) (i : A) → length (before ++ i ∷ []) ≡ length before + 1
 length_more [] i = refl
 length_more (b ∷ before) i = let e = length_more before i in omega (arith, e)
 
@@ -161,19 +162,19 @@ skipped m n place (Some h) cases otherwise other =
 all_skipped : (signal m n place : ℕ) (states : List StateDef) (otherwise : ℕ) → m < n → case_of (pos m) (choice_cases signal n place states) otherwise ≡ otherwise
 all_skipped signal m n place [] otherwise lt = refl
 all_skipped signal m n place (d ∷ states) otherwise lt =
-    let more = choice_cases signal (n + 1) (place + length (handled_code (handler_in signal d.handlers))) states in
+    let more = choice_cases signal (n + 1) (place + handled_length (handler_in signal d.handlers)) states in
     skipped m n place (handler_in signal d.handlers) more otherwise (λ e. omega (arith, e, lt))
-    ∙ all_skipped signal m (n + 1) (place + length (handled_code (handler_in signal d.handlers))) states otherwise (omega (arith, lt))
+    ∙ all_skipped signal m (n + 1) (place + handled_length (handler_in signal d.handlers)) states otherwise (omega (arith, lt))
 
 -- without a handler the table leads to its last place
 pub not_handled : (signal n k place : ℕ) (states : List StateDef) (d : StateDef) (otherwise : ℕ) → slice_get states k ≡ Some d → handler_in signal d.handlers ≡ None → case_of (pos (n + k)) (choice_cases signal n place states) otherwise ≡ otherwise
 not_handled signal n k place [] d otherwise at none = absurd (none-some d at)
 not_handled signal n zero place (c ∷ states) d otherwise at none =
-    ap (λ o. case_of (pos (n + zero)) (handled_case n place o ++ choice_cases signal (n + 1) (place + length (handled_code (handler_in signal c.handlers))) states) otherwise)
+    ap (λ o. case_of (pos (n + zero)) (handled_case n place o ++ choice_cases signal (n + 1) (place + handled_length (handler_in signal c.handlers)) states) otherwise)
     (ap (λ (x : StateDef). handler_in signal x.handlers) (some_is c d at) ∙ none)
-    ∙ all_skipped signal (n + zero) (n + 1) (place + length (handled_code (handler_in signal c.handlers))) states otherwise (omega (arith))
+    ∙ all_skipped signal (n + zero) (n + 1) (place + handled_length (handler_in signal c.handlers)) states otherwise (omega (arith))
 not_handled signal n (suc k) place (c ∷ states) d otherwise at none =
-    let wide = length (handled_code (handler_in signal c.handlers)) in
+    let wide = handled_length (handler_in signal c.handlers) in
     skipped (n + suc k) n place (handler_in signal c.handlers) (choice_cases signal (n + 1) (place + wide) states) otherwise (λ e. omega (arith, e))
     ∙ ap (λ m. case_of (pos m) (choice_cases signal (n + 1) (place + wide) states) otherwise) (shift n k)
     ∙ not_handled signal (n + 1) k (place + wide) states d otherwise at none
@@ -182,49 +183,55 @@ not_handled signal n (suc k) place (c ∷ states) d otherwise at none =
     shift n k = omega (arith)
 
 -- A choice of a body stands at the place to which the case of a state leads.
-pub record ChoiceAt (code : List Instr) (cases : List Case) (first last n body : ℕ) : Type 0 where
+pub record ChoiceAt (control : Control) (code : List Instr) (cases : List Case) (first last n body : ℕ) : Type 0 where
   pub place : ℕ
   pub leads : (otherwise : ℕ) → case_of (pos n) cases otherwise ≡ place
-  pub code_there : HasAt code place (choice_code body)
+  pub code_there : HasAt code place (choice_code control body)
   pub from : first ≤ place
   pub to : place + 3 ≤ last
 
-pub handled_placed : (signal n k : ℕ) (before rest : List Instr) (states : List StateDef) (d : StateDef) (h : Handler) → slice_get states k ≡ Some d → handler_in signal d.handlers ≡ Some h → ChoiceAt (before ++ (choices_code signal states ++ rest)) (choice_cases signal n (length before) states) (length before) (length before + length (choices_code signal states)) (n + k) h.body
-handled_placed signal n k before rest [] d h at has = absurd (none-some d at)
-handled_placed signal n zero before rest (c ∷ states) d h at has =
+pub length_of_handled : (control : Control) (o : Option Handler) → length (handled_code control o) ≡ handled_length o
+length_of_handled control None = refl
+length_of_handled control (Some h) = refl
+
+pub handled_placed : (control : Control) (signal n k : ℕ) (before rest : List Instr) (states : List StateDef) (d : StateDef) (h : Handler) → slice_get states k ≡ Some d → handler_in signal d.handlers ≡ Some h → ChoiceAt control (before ++ (choices_code control signal states ++ rest)) (choice_cases signal n (length before) states) (length before) (length before + length (choices_code control signal states)) (n + k) h.body
+handled_placed control signal n k before rest [] d h at has = absurd (none-some d at)
+handled_placed control signal n zero before rest (c ∷ states) d h at has =
     let is = ap (λ (x : StateDef). handler_in signal x.handlers) (some_is c d at) ∙ has in
-    subst (λ o. ChoiceAt (before ++ ((handled_code o ++ choices_code signal states) ++ rest)) (handled_case n (length before) o ++ choice_cases signal (n + 1) (length before + length (handled_code o)) states) (length before) (length before + length (handled_code o ++ choices_code signal states)) (n + zero) h.body) (sym is)
-    (let len = length_append (choice_code h.body) (choices_code signal states) in
+    subst (λ o. ChoiceAt control (before ++ ((handled_code control o ++ choices_code control signal states) ++ rest)) (handled_case n (length before) o ++ choice_cases signal (n + 1) (length before + handled_length o) states) (length before) (length before + length (handled_code control o ++ choices_code control signal states)) (n + zero) h.body) (sym is)
+    (let len = length_append (choice_code control h.body) (choices_code control signal states) in
     record {
       place = length before;
       leads = λ otherwise. ap (λ t. if t then length before else case_of (pos (n + zero)) (choice_cases signal (n + 1) (length before + 3) states) otherwise)
           (ap (λ m. is_same (pos m) (pos n)) (plus_zero n) ∙ same_number n);
-      code_there = subst (λ is. HasAt (before ++ is) (length before) (choice_code h.body))
-          (sym (append_assoc (choice_code h.body) (choices_code signal states) rest))
-          (has_at before (choice_code h.body) (choices_code signal states ++ rest));
+      code_there = subst (λ is. HasAt (before ++ is) (length before) (choice_code control h.body))
+          (sym (append_assoc (choice_code control h.body) (choices_code control signal states) rest))
+          (has_at before (choice_code control h.body) (choices_code control signal states ++ rest));
       from = omega (arith);
       to = omega (arith, len);
     })
   where
     plus_zero : (n : ℕ) → n + zero ≡ n
     plus_zero n = omega (arith)
-handled_placed signal n (suc k) before rest (c ∷ states) d h at has =
+handled_placed control signal n (suc k) before rest (c ∷ states) d h at has =
     let o = handler_in signal c.handlers in
-    let here = handled_code o in
+    let here = handled_code control o in
     let len = length_append before here in
-    let all = length_append here (choices_code signal states) in
-    let inner = handled_placed signal (n + 1) k (before ++ here) rest states d h at has in
+    let wide = length_of_handled control o in
+    let fits = len ∙ ap (λ m. length before + m) wide in
+    let all = length_append here (choices_code control signal states) in
+    let inner = handled_placed control signal (n + 1) k (before ++ here) rest states d h at has in
     let from = inner.from in
     let to = inner.to in
     record {
       place = inner.place;
       leads = λ otherwise.
-          skipped (n + suc k) n (length before) o (choice_cases signal (n + 1) (length before + length here) states) otherwise (λ e. omega (arith, e))
-          ∙ ap (λ m. case_of (pos m) (choice_cases signal (n + 1) (length before + length here) states) otherwise) (shift n k)
-          ∙ ap (λ p. case_of (pos (n + 1 + k)) (choice_cases signal (n + 1) p states) otherwise) (sym len)
+          skipped (n + suc k) n (length before) o (choice_cases signal (n + 1) (length before + handled_length o) states) otherwise (λ e. omega (arith, e))
+          ∙ ap (λ m. case_of (pos m) (choice_cases signal (n + 1) (length before + handled_length o) states) otherwise) (shift n k)
+          ∙ ap (λ p. case_of (pos (n + 1 + k)) (choice_cases signal (n + 1) p states) otherwise) (sym fits)
           ∙ inner.leads otherwise;
-      code_there = subst (λ is. HasAt is inner.place (choice_code h.body))
-          (append_assoc before here (choices_code signal states ++ rest) ∙ ap (λ is. before ++ is) (sym (append_assoc here (choices_code signal states) rest)))
+      code_there = subst (λ is. HasAt is inner.place (choice_code control h.body))
+          (append_assoc before here (choices_code control signal states ++ rest) ∙ ap (λ is. before ++ is) (sym (append_assoc here (choices_code control signal states) rest)))
           inner.code_there;
       from = omega (arith, from, len);
       to = omega (arith, to, len, all);

@@ -21,31 +21,10 @@ use Rattle.og_csubset.specs.Interface.{Field, numbers_below, parameters_from, si
 use Rattle.og_csubset.specs.Fair.{names_of, has_slot, is_shown, has_values}
 use Rattle.og_csubset.specs.Kinds.{is_in}
 use Rattle.og_csubset.specs.FlatRun.{slot_names}
-use Rattle.og_flatten.specs.FlatCode.{code_of}
+use Rattle.og_flatten.proofs.PlainSlots.{empty, one_region, plain_code}
 use Rattle.og_flatten.proofs.Made.{IsMade}
 use Rattle.og_flatten.proofs.Tests.{all_append}
 use Rattle.og_names.proofs.Truths.{both_first as left_of, both_second as right_of}
-
--- ---- regions
-
-kind_regions : (within : Scope → Insides) (k : Kind) → is_basic k ≡ true → (kind_insides within k).regions ≡ []
-kind_regions within Basic is = refl
-kind_regions within (Composite entry exit inner) is = cc
-kind_regions within (Aggregation entry exit ps) is = cc
-
-states_regions : (within : Scope → Insides) (states : List StateDef) → list_all is_plain_state states ≡ true → (states_insides within states).regions ≡ []
-states_regions within [] all = refl
-states_regions within (d ∷ states) all =
-    ap (λ (rs : List Region). map (region_under d.name) rs ++ (states_insides within states).regions) (kind_regions within (out-StateKind d.kind) (left_of _ _ (left_of _ _ all)))
-    ∙ states_regions within states (right_of _ _ all)
-
-scope_regions : (depth : ℕ) (m : Scope) → list_all is_plain_state (out-Scope m).states ≡ true → (insides_within depth m).regions ≡ []
-scope_regions zero m all = refl
-scope_regions (suc depth) m all = states_regions (insides_within depth) (out-Scope m).states all
-
-empty : {A : Type 0} (xs : List A) → is_empty xs ≡ true → xs ≡ []
-empty [] is = refl
-empty (x ∷ xs) is = cc
 
 no_sorts : (signals : List Signal) → list_all (λ (s : Signal). is_empty s.sorts) signals ≡ true → (k : ℕ) → sorts_of (slice_get signals k) ≡ []
 no_sorts [] all k = refl
@@ -66,18 +45,13 @@ timer_events ks = flat_map (λ (k : ℕ). event.Set k ∷ event.Reset k ∷ []) 
 -- a field of the event of this number has a slot, or no slot is asked
 abbrev has_value : Model → ℕ → Field → Bool
 has_value model k field =
-    has_slot model.types (code_of model) field || (not (is_shown (code_of model) k) && not (is_in field.name (names_of (code_of model))))
+    has_slot model.types (plain_code model) field || (not (is_shown (plain_code model) k) && not (is_in field.name (names_of (plain_code model))))
 
 module _ (model : Model) (made : IsMade model) where
-  one_region : regions model ≡ record { path = []; leaves = (insides_of model.root).leaves } ∷ []
-  one_region =
-      ap (λ (more : List Region). record { path = []; leaves = (insides_of model.root).leaves } ∷ more)
-      (scope_regions (size-Scope model.root) model.root made.basic.states)
-
-  pub control : map (λ (field : Field). field.name) (control_fields model) ≡ take (length (control_fields model)) (slot_names (code_of model))
+  pub control : map (λ (field : Field). field.name) (control_fields model) ≡ take (length (control_fields model)) (slot_names (plain_code model))
   control =
-      ap (λ (rs : List Region). map (λ (field : Field). field.name) (with_regions model rs)) one_region
-      ∙ sym (ap (λ (rs : List Region). take (length (with_regions model rs)) (slot_names (code_of model))) one_region)
+      ap (λ (rs : List Region). map (λ (field : Field). field.name) (with_regions model rs)) (one_region model made.basic)
+      ∙ sym (ap (λ (rs : List Region). take (length (with_regions model rs)) (slot_names (plain_code model))) (one_region model made.basic))
 
   -- ---- no parameters
 
@@ -87,27 +61,27 @@ module _ (model : Model) (made : IsMade model) where
   no_outputs : (k : ℕ) → outputs_of model k ≡ []
   no_outputs k = ap (parameters_from 1 (codes "o_" ++ signal_name model k)) (no_sorts model.signals made.basic.no_parameters k)
 
-  has_control : list_all (has_slot model.types (code_of model)) (control_fields model) ≡ true
+  has_control : list_all (has_slot model.types (plain_code model)) (control_fields model) ≡ true
   has_control =
-      ap (λ (rs : List Region). list_all (has_slot model.types (code_of model)) (with_regions model rs)) one_region
+      ap (λ (rs : List Region). list_all (has_slot model.types (plain_code model)) (with_regions model rs)) (one_region model made.basic)
 
-  pub fields : list_all (has_slot model.types (code_of model)) (fields_of model) ≡ true
+  pub fields : list_all (has_slot model.types (plain_code model)) (fields_of model) ≡ true
   fields =
-      all_append (has_slot model.types (code_of model)) (control_fields model ++ variable_fields model ++ timer_fields model) (flat_map (inputs_of model) (incoming model))
-      (all_append (has_slot model.types (code_of model)) (control_fields model ++ variable_fields model) (timer_fields model)
-      (all_append (has_slot model.types (code_of model)) (control_fields model) (variable_fields model) has_control
-      (ap (λ vs. list_all (has_slot model.types (code_of model)) (map (variable_field model) vs)) made.basic.no_variables))
-      (ap (λ ts. list_all (has_slot model.types (code_of model)) (map (timer_field model) ts)) made.basic.no_timers))
-      (ap (λ fs. list_all (has_slot model.types (code_of model)) fs) (none_of_each (inputs_of model) no_inputs (incoming model)))
+      all_append (has_slot model.types (plain_code model)) (control_fields model ++ variable_fields model ++ timer_fields model) (flat_map (inputs_of model) (incoming model))
+      (all_append (has_slot model.types (plain_code model)) (control_fields model ++ variable_fields model) (timer_fields model)
+      (all_append (has_slot model.types (plain_code model)) (control_fields model) (variable_fields model) has_control
+      (ap (λ vs. list_all (has_slot model.types (plain_code model)) (map (variable_field model) vs)) made.basic.no_variables))
+      (ap (λ ts. list_all (has_slot model.types (plain_code model)) (map (timer_field model) ts)) made.basic.no_timers))
+      (ap (λ fs. list_all (has_slot model.types (plain_code model)) fs) (none_of_each (inputs_of model) no_inputs (incoming model)))
 
   -- ---- events
 
-  outputs_have : (k : ℕ) (ns : List ℕ) (others : List EventId) → ((j : ℕ) → has_values model (code_of model) j others ≡ true)
-      → has_values model (code_of model) k (map event.Output ns ++ others) ≡ true
+  outputs_have : (k : ℕ) (ns : List ℕ) (others : List EventId) → ((j : ℕ) → has_values model (plain_code model) j others ≡ true)
+      → has_values model (plain_code model) k (map event.Output ns ++ others) ≡ true
   outputs_have k [] others rest = rest k
   outputs_have k (n ∷ ns) others rest = and_from _ _ (ap (list_all (has_value model k)) (no_outputs n)) (outputs_have (k + 1) ns others rest)
 
-  pub values : has_values model (code_of model) 0 (events_of model) ≡ true
+  pub values : has_values model (plain_code model) 0 (events_of model) ≡ true
   values =
       outputs_have 0 (numbers_below (length model.signals)) (timer_events (numbers_below (length model.timers)))
-      (λ j. ap (λ (ts : List NameId). has_values model (code_of model) j (timer_events (numbers_below (length ts)))) made.basic.no_timers)
+      (λ j. ap (λ (ts : List NameId). has_values model (plain_code model) j (timer_events (numbers_below (length ts)))) made.basic.no_timers)

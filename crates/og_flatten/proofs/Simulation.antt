@@ -26,12 +26,15 @@ use Rattle.og_model.specs.Units.{State, Done, Doing, gives}
 use Rattle.og_model.specs.Configuration.{Active, At, Basic, paths_of}
 use Rattle.og_model.specs.Run.{first_state, start, step}
 use Rattle.og_ir.specs.declared.FlatFn.{FlatFn}
+use Rattle.og_ir.specs.declared.Instr.{Instr}
 use Rattle.og_ir.specs.declared.Instr.TheVariants as instr
 use Rattle.og_ir.specs.Cells.{◌>>=◌, Cells}
 use Rattle.og_ir.specs.FlatSteps.{first_slots, case_of}
-use Rattle.og_ir.specs.Steps.{Config, Running, quiet}
+use Rattle.og_ir.specs.Steps.{Frame, Config, Running}
 use Rattle.og_csubset.specs.Agreement.{is_stimulus, is_sent, are_in}
-use Rattle.og_csubset.specs.Fair.{Fair}
+use Rattle.og_csubset.specs.Fair.{Fair, names_of}
+use Rattle.og_csubset.specs.Loading.{has_twice}
+use Rattle.og_names.specs.declared.Word.{Word}
 use Rattle.og_csubset.specs.FlatRun.{slot_names, flat_function_names}
 use Rattle.og_csubset.specs.Kinds.{place_in}
 use Rattle.og_csubset.specs.Interface as interface
@@ -39,59 +42,47 @@ use Rattle.og_csubset.specs.Paced.{Pace, IsPace, paced_size}
 use Rattle.og_csubset.specs.Reads.{Globals, path_of, all_of, values_of, number_named, paths_in, end_of, inputs_set}
 use Rattle.og_ir.specs.Reading.{truth_in}
 use Rattle.og_csubset.specs.Run.{entered}
-use Rattle.og_flatten.specs.FlatCode.{code_of, transition_function, transition_code, start_function, signal_function, signal_code, signal_end, first_entering, entering_place, end_place, states_of, bodies_of, bodies_code, body_cases, body_length, length_of_bodies, entering_code, choice_code, choices_code, choice_cases, is_input, handler_in, start_body, sets, region, chosen, read, is_stopped}
+use Rattle.og_flatten.specs.FlatCode.{code_of, transition_function, transition_code, start_function, signal_function, signal_code, signal_end, first_entering, entering_place, end_place, states_of, bodies_of, bodies_code, body_cases, body_length, length_of_bodies, entering_code, choice_code, choices_code, choice_cases, is_input, handler_in, start_body, sets, region, read, is_stopped}
 use Rattle.og_follow.specs.Answers.{AtRest, AtHalt, Answers, Simulates}
 use Rattle.og_follow.specs.Carrying.{Standing, only, Places, nowhere, place, either, Apart, Among, Ways, Passes, no_places, behind, before_places, Always, Returned}
 use Rattle.og_follow.proofs.Carrying.{passes_on, passes_then, then_passes, only_passes, passes_wider, ends_at_once, same_doing, same_ways, as_wider}
 use Rattle.og_follow.proofs.Answering.{carried_is_answered}
-use Rattle.og_flatten.proofs.SingleSteps.{slots_at, sets_region, sets_chosen, table_of_chosen, table_of_region, not_stopped}
+use Rattle.og_layout.specs.Layout.{Mark, Between, Inactive, Leaf, NoLeaf, numbers_of, marked}
+use Rattle.og_layout.proofs.AtRest.{rest_is_read}
+use Rattle.og_flatten.specs.Slots.{control_of, layout_of}
+use Rattle.og_flatten.proofs.Layouts.{slots_are_named}
+use Rattle.og_flatten.proofs.SingleSteps.{Holding, StandsAs, Chose, Leads, same_slots, sets_region, sets_chosen, table_of_chosen, table_of_region, not_stopped}
+use Rattle.og_flatten.proofs.Standings.{IsBasic, leaf_is, HasOne, one_at, one_inactive, entered_number, left_number, first_stands, RestsIn, in_state, is_active}
 use Rattle.og_flatten.proofs.Places.{HasAt, BodyAt, bodies_placed, entering_placed, length_of_all, ChoiceAt, handled_placed, not_handled, has_at}
 use Rattle.og_flatten.proofs.Serving.{serves, serves_nothing, body_serves, state_serves, served}
 use Rattle.og_flatten.proofs.Basic.{body_is, StateIs, state_is, start_is}
 use Rattle.og_flatten.proofs.Meaning.{whole, start_is_whole, step_takes, step_discards, paths_are}
-use Rattle.og_flatten.proofs.Transitions.{frame, machine_of, HasNoData, Here, Left, from_to, whole_places, whole_ways, done≢out, coded, goes, returns, carries_whole}
-use Rattle.og_flatten.proofs.Interfaces.{start_placed, SignalAt, signal_at, emits, no_inputs, leaf_of, leaf_at, no_regions, there}
+use Rattle.og_flatten.proofs.Transitions.{frame, machine_of, Here, Left, from_to, whole_places, whole_ways, done≢out, coded, goes, returns, carries_whole}
+use Rattle.og_flatten.proofs.Interfaces.{start_placed, SignalAt, signal_at, emits, no_inputs, once_before, not_true, there}
 use Rattle.og_names.proofs.Truths.{both_first as left_of, both_second as right_of, same_value as some_is}
-
--- a model of basic states with what holds of it
-pub record IsBasic (M : Model) : Type 0 where
-  pub formed : IsWellFormed M
-  pub basic : UsesBasicStatesOnly M
-  pub fair : Fair (code_of M) M
 
 pub none_more : (k : ℕ) → 0 + k ≡ k
 none_more k = omega (arith)
 
 -- ---- where bodies and entering code stand
 
-pub body_placed : (M : Model) (k : ℕ) (b : Body) → slice_get (bodies_of M) k ≡ Some b → BodyAt (first_entering M) (end_place M) (transition_code M) (body_cases 0 1 (bodies_of M)) 1 (first_entering M) k b
+pub body_placed : (M : Model) (k : ℕ) (b : Body) → slice_get (bodies_of M) k ≡ Some b → BodyAt (first_entering M) (end_place M) (transition_code (control_of M) M) (body_cases 0 1 (bodies_of M)) 1 (first_entering M) k b
 body_placed M k b at =
-    subst (λ n. BodyAt (first_entering M) (end_place M) (transition_code M) (body_cases 0 1 (bodies_of M)) 1 (first_entering M) n b) (none_more k)
-    (bodies_placed (first_entering M) (end_place M) 0 k (instr.Table (read chosen) (body_cases 0 1 (bodies_of M)) (end_place M) ∷ []) (entering_code 0 (states_of M) ++ instr.Back ∷ []) (bodies_of M) b at)
+    subst (λ n. BodyAt (first_entering M) (end_place M) (transition_code (control_of M) M) (body_cases 0 1 (bodies_of M)) 1 (first_entering M) n b) (none_more k)
+    (bodies_placed (first_entering M) (end_place M) 0 k (instr.Table (read (control_of M).chosen) (body_cases 0 1 (bodies_of M)) (end_place M) ∷ []) (entering_code 0 (states_of M) ++ instr.Back ∷ []) (bodies_of M) b at)
 
-pub state_placed : (M : Model) (k : ℕ) (d : StateDef) → slice_get (states_of M) k ≡ Some d → HasAt (transition_code M) (entering_place M k) (sets region (pos k) ∷ instr.Back ∷ [])
+pub state_placed : (M : Model) (k : ℕ) (d : StateDef) → slice_get (states_of M) k ≡ Some d → HasAt (transition_code (control_of M) M) (entering_place M k) (sets region (pos k) ∷ instr.Back ∷ [])
 state_placed M k d at =
-    let before = instr.Table (read chosen) (body_cases 0 1 (bodies_of M)) (end_place M) ∷ bodies_code M (bodies_of M) in
+    let before = instr.Table (read (control_of M).chosen) (body_cases 0 1 (bodies_of M)) (end_place M) ∷ bodies_code M (bodies_of M) in
     let len : length before + 2 * k ≡ entering_place M k = place_is (length (bodies_code M (bodies_of M))) (length_of_bodies (bodies_of M)) k (length_of_all (first_entering M) (end_place M) (bodies_of M)) in
-    subst (λ p. HasAt (transition_code M) p (sets region (pos k) ∷ instr.Back ∷ [])) len
-    (subst (λ n. HasAt (transition_code M) (length before + 2 * k) (sets region (pos n) ∷ instr.Back ∷ [])) (none_more k)
+    subst (λ p. HasAt (transition_code (control_of M) M) p (sets region (pos k) ∷ instr.Back ∷ [])) len
+    (subst (λ n. HasAt (transition_code (control_of M) M) (length before + 2 * k) (sets region (pos n) ∷ instr.Back ∷ [])) (none_more k)
     (entering_placed 0 k before (instr.Back ∷ []) (states_of M) d at))
   where
     place_is : (a b k : ℕ) → a ≡ b → suc a + 2 * k ≡ 1 + b + 2 * k
     place_is a b k e = omega (arith, e)
 
--- ---- slots at rest
-
--- the process rests in a basic state, whose number is in its slot
-pub record RestsIn (M : Model) (a : Active) (s : State) (slots : List Cells) : Type 0 where
-  pub state : ℕ
-  pub def : StateDef
-  pub x : ℤ
-  pub is : a ≡ At state Basic
-  pub there : slice_get (states_of M) state ≡ Some def
-  pub holds : slots ≡ slots_at (pos state) x
-  pub variables : s.store.variables ≡ []
-  pub timers : s.timers ≡ []
+-- ---- at rest
 
 abbrev pub Rests : Model → AtRest
 Rests M = RestsIn M
@@ -100,36 +91,9 @@ Rests M = RestsIn M
 abbrev pub Halts : AtHalt
 Halts s slots = ⊥
 
-basic_insides : (M : Model) → IsBasic M → (i : ℕ) (d : StateDef) → slice_get (states_of M) i ≡ Some d → state_insides insides_of d ≡ record { leaves = leaf_of d ∷ []; regions = [] }
-basic_insides M is i d at = ap (λ k. insides_under d.name (kind_insides insides_of k)) (state_is M is.formed is.basic i d at).kind
-
-abbrev process : Model → Region
-process M = record { path = []; leaves = (insides_of M.root).leaves }
-
-regions_are : (M : Model) → IsBasic M → regions M ≡ process M ∷ []
-regions_are M is =
-    ap (λ rs. process M ∷ rs)
-    (ap (λ (x : Insides). x.regions) (insides_is M.root) ∙ no_regions insides_of (states_of M) (basic_insides M is))
-
-leaves_are : (M : Model) → IsBasic M → (k : ℕ) (d : StateDef) → slice_get (states_of M) k ≡ Some d → slice_get (process M).leaves k ≡ Some (leaf_of d)
-leaves_are M is k d at =
-    ap (λ (x : Insides). slice_get x.leaves k) (insides_is M.root) ∙ leaf_at insides_of (states_of M) k d (basic_insides M is) at
-
--- the end at rest, by regions, variables and timers
-abbrev rest_by : Model → Globals → List Region → List Variable → List NameId → Option End
-rest_by M globals rs vars ts =
-    paths_in M globals rs >>= λ paths.
-    values_of M globals (map (interface.variable_field M) vars) >>= λ variables.
-    all_of (λ (field : interface.Field). number_named globals field.name >>= truth_in) (map (interface.timer_field M) ts) >>= λ timers.
-    Some (Shows.Rest paths variables timers)
-
-pub shows_rest : (M : Model) → IsBasic M → (k : ℕ) (d : StateDef) (x : ℤ) → slice_get (states_of M) k ≡ Some d → end_of M (slot_names (code_of M)) (slots_at (pos k) x) ≡ Shows.Rest ((d.name ∷ []) ∷ []) [] []
-unfolding end_of
-shows_rest M is k d x at =
-    ap (λ rs. unwrap_or (rest_by M (record { names = slot_names (code_of M); cells = slots_at (pos k) x }) rs M.variables M.timers) (Shows.Stuck stuck.Value)) (regions_are M is)
-    ∙ ap (λ vars. unwrap_or (rest_by M (record { names = slot_names (code_of M); cells = slots_at (pos k) x }) (process M ∷ []) vars M.timers) (Shows.Stuck stuck.Value)) is.basic.no_variables
-    ∙ ap (λ ts. unwrap_or (rest_by M (record { names = slot_names (code_of M); cells = slots_at (pos k) x }) (process M ∷ []) [] ts) (Shows.Stuck stuck.Value)) is.basic.no_timers
-    ∙ ap (λ o. unwrap_or (((o >>= λ leaf. Some (path_of (process M) leaf)) >>= λ here. Some (here ++ [])) >>= λ paths. Some (Shows.Rest paths [] [])) (Shows.Stuck stuck.Value)) (leaves_are M is k d at)
+-- where the code has returned to outside in a state, the process rests there
+rests_there : (M : Model) → IsBasic M → (k : ℕ) (d : StateDef) → slice_get (states_of M) k ≡ Some d → (s : State) (now : Config) → Left (StandsAs M (marked (At k Basic))) s now → Returned (Rests M) Halts (machine_of M) (Done (At k Basic)) s now
+rests_there M is k d at s now left = (left.slots, left.is, record { active = is_active M is k d at; holds = left.holds })
 
 -- ---- the places of a transition
 
@@ -195,20 +159,25 @@ whole_new e f p a b other from some g q (inr x) y = new_place e f p other g q x 
 
 -- ---- a chosen body
 
+-- a table leads to the place of its case
+pub leads_to : (M : Model) (K : Holding) (at : Frame) (callers : List Frame) (i : Instr) (L : Holding) (p q f : ℕ) → p ≡ q → Leads M K at callers i [] L (λ slots. Running slots (frame f p) callers) → Leads M K at callers i [] L (λ slots. Running slots (frame f q) callers)
+leads_to M K at callers i L p q f same leads = subst (λ n. Leads M K at callers i [] L (λ slots. Running slots (frame f n) callers)) same leads
+
 -- the code stands at a choice, and then at the body
-choice_passes : (M : Model) (pace : Pace) (is_pace : IsPace pace) (r x : ℤ) (f p : ℕ) (g : FlatFn) (body : ℕ) (b : Body) → (placed : BodyAt (first_entering M) (end_place M) (transition_code M) (body_cases 0 1 (bodies_of M)) 1 (first_entering M) body b) → slice_get (code_of M).functions f ≡ Some g → HasAt g.code p (choice_code body) → (f ≡ 0 → ⊥)
-    → Passes (coded M pace is_pace) (Here r x f p []) [] (Here r (pos body) 0 placed.place (frame f (p + 1 + 1) ∷ [])) (at_choice f p)
-choice_passes M pace is_pace r x f p g body b placed at code other =
-    let y = pos body in
+choice_passes : (M : Model) (pace : Pace) (is_pace : IsPace pace) (mark : Mark) (f p : ℕ) (g : FlatFn) (body : ℕ) (b : Body) → (placed : BodyAt (first_entering M) (end_place M) (transition_code (control_of M) M) (body_cases 0 1 (bodies_of M)) 1 (first_entering M) body b) → slice_get (code_of M).functions f ≡ Some g → HasAt g.code p (choice_code (control_of M) body) → (f ≡ 0 → ⊥)
+    → Passes (coded M pace is_pace) (Here (StandsAs M mark) f p []) [] (Here (StandsAs M mark) 0 placed.place (frame f (p + 1 + 1) ∷ [])) (at_choice f p)
+choice_passes M pace is_pace mark f p g body b placed at code other =
+    let K = StandsAs M mark in
+    let L = Chose M mark body in
     let back = frame f (p + 1 + 1) ∷ [] in
-    passes_on (coded M pace is_pace) (Here r x f p []) [] (Here r y 0 0 back) [] (Here r y 0 placed.place back) (either (place f p) (place f (p + 1))) (place 0 0)
-    (passes_on (coded M pace is_pace) (Here r x f p []) [] (Here r y f (p + 1) []) [] (Here r y 0 0 back) (place f p) (place f (p + 1))
-    (goes M pace is_pace r x f p [] r y f (p + 1) [] g (sets chosen y) (serves_nothing M f p other) at code.0 (sets_chosen M r x y (frame f p) []))
-    (goes M pace is_pace r y f (p + 1) [] r y 0 0 back g (instr.Call 0) (serves_nothing M f (p + 1) other) at code.1.0 refl)
+    let cases = body_cases 0 1 (bodies_of M) in
+    passes_on (coded M pace is_pace) (Here K f p []) [] (Here L 0 0 back) [] (Here K 0 placed.place back) (either (place f p) (place f (p + 1))) (place 0 0)
+    (passes_on (coded M pace is_pace) (Here K f p []) [] (Here L f (p + 1) []) [] (Here L 0 0 back) (place f p) (place f (p + 1))
+    (goes M pace is_pace K f p [] L f (p + 1) [] g (sets (control_of M).chosen (pos body)) (serves_nothing M f p other) at code.0 (sets_chosen M mark body (frame f p) []))
+    (goes M pace is_pace L f (p + 1) [] L 0 0 back g (instr.Call 0) (serves_nothing M f (p + 1) other) at code.1.0 (same_slots M L (frame f (p + 1)) [] (instr.Call 0) [] (λ slots. Running slots (frame 0 0) back) (λ slots. refl)))
     second_apart)
-    (goes M pace is_pace r y 0 0 back r y 0 placed.place back (transition_function M) (instr.Table (read chosen) (body_cases 0 1 (bodies_of M)) (end_place M)) refl refl refl
-    (table_of_chosen M r y (frame 0 0) back (body_cases 0 1 (bodies_of M)) (end_place M)
-    ∙ ap (λ q. quiet (Running (slots_at r y) (frame 0 q) back)) (placed.leads (end_place M))))
+    (goes M pace is_pace L 0 0 back K 0 placed.place back (transition_function (control_of M) M) (instr.Table (read (control_of M).chosen) cases (end_place M)) refl refl refl
+    (leads_to M L (frame 0 0) back (instr.Table (read (control_of M).chosen) cases (end_place M)) K (case_of (pos body) cases (end_place M)) placed.place 0 (placed.leads (end_place M)) (table_of_chosen M mark body (frame 0 0) back cases (end_place M))))
     third_apart
   where
     second_apart : Apart (place f (p + 1)) (place f p)
@@ -222,11 +191,11 @@ abbrev chosen_ways : ℕ → ℕ → ℕ → ℕ → ℕ → Ways
 chosen_ways f p a b e = behind (either (before_choice f p) (at_choice f p)) (before_places (whole_ways a b e) (at_returns e f (p + 1 + 1)))
 
 -- From the function's first place the code passes to the choice of a body, carries out the transition, and returns.
-pub chooses : (M : Model) → IsBasic M → (pace : Pace) (is_pace : IsPace pace) (r x : ℤ) (f p : ℕ) (g : FlatFn) (body : ℕ) (origin : Option ℕ) → body < length (bodies_of M)
-    → slice_get (code_of M).functions f ≡ Some g → HasAt g.code p (choice_code body) → (f ≡ 0 → ⊥)
-    → (before : Standing) → Passes (coded M pace is_pace) before [] (Here r x f p []) (before_choice f p)
+pub chooses : (M : Model) → IsBasic M → (pace : Pace) (is_pace : IsPace pace) (mark : Mark) → HasOne M mark → (f p : ℕ) (g : FlatFn) (body : ℕ) (origin : Option ℕ) → body < length (bodies_of M)
+    → slice_get (code_of M).functions f ≡ Some g → HasAt g.code p (choice_code (control_of M) body) → (f ≡ 0 → ⊥)
+    → (before : Standing) → Passes (coded M pace is_pace) before [] (Here (StandsAs M mark) f p []) (before_choice f p)
     → Answered M pace is_pace before (whole M (Some body) origin)
-chooses M is pace is_pace r x f p g body origin lt at code other before passes =
+chooses M is pace is_pace mark one f p g body origin lt at code other before passes =
     let code_of_it = coded M pace is_pace in
     let found = there (bodies_of M) body lt in
     let b = found.0 in
@@ -236,41 +205,29 @@ chooses M is pace is_pace r x f p g body origin lt at code other before passes =
     let entered = there (states_of M) k b_is.there in
     let e = entering_place M k in
     let entering = state_placed M k entered.0 entered.1 in
-    let y = pos body in
+    let K = StandsAs M mark in
+    let L = StandsAs M (marked (At k Basic)) in
     let back = frame f (p + 1 + 1) ∷ [] in
     let a = placed.place in
     let end = a + body_length b in
     let Z = at_returns e f (p + 1 + 1) in
     let from = placed.from in
     let to = placed.to in
-    let rest : (s : State) (now : Config) → Left (pos k) y s now → Returned (Rests M) Halts (machine_of M) (Done (At k Basic)) s now = λ s now left. (
-      slots_at (pos k) y,
-      left.is,
-      record {
-        state = k;
-        def = entered.0;
-        x = y;
-        is = refl;
-        there = entered.1;
-        holds = refl;
-        variables = left.bare.variables;
-        timers = left.bare.timers;
-      },
-    ) in
+    let rest = rests_there M is k entered.0 entered.1 in
     record {
       ways = chosen_ways f p a end e;
       carries = λ fuel.
           let whole_one : Doing Active = whole M (Some body) origin in
-          as_wider code_of_it fuel fuel whole_one before before (only (Done (At k Basic)) (Left (pos k) y)) (Returned (Rests M) Halts (machine_of M)) (chosen_ways f p a end e) (chosen_ways f p a end e) (omega (arith)) (λ s now h. h) (λ o s now h. subst (λ o. Returned (Rests M) Halts (machine_of M) o s now) (sym h.0) (rest s now h.1)) (same_ways (chosen_ways f p a end e))
-          (passes_then code_of_it fuel whole_one before [] (Here r y 0 a back) (only (Done (At k Basic)) (Left (pos k) y)) (either (before_choice f p) (at_choice f p)) (before_places (whole_ways a end e) Z)
-          (passes_on code_of_it before [] (Here r x f p []) [] (Here r y 0 a back) (before_choice f p) (at_choice f p) passes
-          (choice_passes M pace is_pace r x f p g body b placed at code other) (choice_apart f p other))
-          (then_passes code_of_it fuel whole_one (Here r y 0 a back) (only (Done (At k Basic)) (Here (pos k) y 0 (e + 1) back)) (only (Done (At k Basic)) (Left (pos k) y)) Z (whole_ways a end e)
-          (carries_whole M pace is_pace (emits M is.basic is.fair) r y back a body b origin found.1 b_is entered.0 entered.1 (state_is M is.formed is.basic k entered.0 entered.1) placed.code_there (body_serves M body b a found.1 (placed.leads 0)) entering fuel)
-          (only_passes code_of_it (Done (At k Basic)) (Here (pos k) y 0 (e + 1) back) (Left (pos k) y) Z
-          (passes_on code_of_it (Here (pos k) y 0 (e + 1) back) [] (Here (pos k) y f (p + 1 + 1) []) [] (Left (pos k) y) (place 0 (e + 1)) (place f (p + 1 + 1))
-          (goes M pace is_pace (pos k) y 0 (e + 1) back (pos k) y f (p + 1 + 1) [] (transition_function M) instr.Back (served M (e + 1) None (state_serves M k entered.0 entered.1).1.0) refl entering.1.0 refl)
-          (returns M pace is_pace (pos k) y f (p + 1 + 1) g (serves_nothing M f (p + 1 + 1) other) at code.1.1.0)
+          as_wider code_of_it fuel fuel whole_one before before (only (Done (At k Basic)) (Left L)) (Returned (Rests M) Halts (machine_of M)) (chosen_ways f p a end e) (chosen_ways f p a end e) (omega (arith)) (λ s now h. h) (λ o s now h. subst (λ o. Returned (Rests M) Halts (machine_of M) o s now) (sym h.0) (rest s now h.1)) (same_ways (chosen_ways f p a end e))
+          (passes_then code_of_it fuel whole_one before [] (Here K 0 a back) (only (Done (At k Basic)) (Left L)) (either (before_choice f p) (at_choice f p)) (before_places (whole_ways a end e) Z)
+          (passes_on code_of_it before [] (Here (StandsAs M mark) f p []) [] (Here K 0 a back) (before_choice f p) (at_choice f p) passes
+          (choice_passes M pace is_pace mark f p g body b placed at code other) (choice_apart f p other))
+          (then_passes code_of_it fuel whole_one (Here K 0 a back) (only (Done (At k Basic)) (Here L 0 (e + 1) back)) (only (Done (At k Basic)) (Left L)) Z (whole_ways a end e)
+          (carries_whole M pace is_pace (emits M is.basic is.fair) mark back a body b origin found.1 b_is entered.0 entered.1 (state_is M is.formed is.basic k entered.0 entered.1) (entered_number M is mark one k entered.0 entered.1) placed.code_there (body_serves M body b a found.1 (placed.leads 0)) entering fuel)
+          (only_passes code_of_it (Done (At k Basic)) (Here L 0 (e + 1) back) (Left L) Z
+          (passes_on code_of_it (Here L 0 (e + 1) back) [] (Here L f (p + 1 + 1) []) [] (Left L) (place 0 (e + 1)) (place f (p + 1 + 1))
+          (goes M pace is_pace L 0 (e + 1) back L f (p + 1 + 1) [] (transition_function (control_of M) M) instr.Back (served M (e + 1) None (state_serves M k entered.0 entered.1).1.0) refl entering.1.0 (same_slots M L (frame 0 (e + 1)) back instr.Back [] (λ slots. Running slots (frame f (p + 1 + 1)) []) (λ slots. refl)))
+          (returns M pace is_pace L f (p + 1 + 1) g (serves_nothing M f (p + 1 + 1) other) at code.1.1.0)
           (returns_apart e f (p + 1 + 1) other)))
           (λ h q u v. v) (behind_whole e f (p + 1 + 1) a end other (omega (arith, to))) (behind_whole e f (p + 1 + 1) a end other (omega (arith, to))))
           (returns_new e f p other) (whole_new e f p a end other from (omega (arith))));
@@ -297,23 +254,19 @@ WhereCarried M pace is_pace P =
 pub starts_with : (M : Model) → IsBasic M → (pace : Pace) (is_pace : IsPace pace) (P : Holds) → WhereCarried M pace is_pace P → P ((machine_of M).begin None (first_slots M.types (code_of M))) (start M) (first_state M)
 starts_with M is pace is_pace P holds =
     let st = start_is M is.formed is.basic in
-    let first = slots_at (pos 0) (pos 0) in
+    let first = first_slots M.types (code_of M) in
     let config : Config = Running first (frame 1 0) [] in
-    let begun_is : (machine_of M).begin None (first_slots M.types (code_of M)) ≡ config = ap (λ o. entered o first) (start_placed M is.fair) in
-    let before = Here (pos 0) (pos 0) 1 0 [] in
+    let begun_is : (machine_of M).begin None first ≡ config = ap (λ o. entered o first) (start_placed M is.fair) in
+    let K = StandsAs M Between in
+    let L = StandsAs M Inactive in
+    let before = Here K 1 0 [] in
     subst (λ c. P c (start M) (first_state M)) (sym begun_is)
     (subst (λ d. P config d (first_state M)) (sym (start_is_whole M st))
-    (holds config (whole M (Some st.start.body) None) (first_state M) before
-    (record {
-      is = refl;
-      bare = record {
-        variables = ap (map (λ (v : Variable). v.initial)) is.basic.no_variables;
-        timers = ap (map (λ (t : NameId). false)) is.basic.no_timers;
-      };
-    })
-    (chooses M is pace is_pace (negsuc 0) (pos 0) 1 1 (start_function M) st.start.body None st.there refl (ap (λ starts. Some (sets chosen (pos (start_body starts)))) st.is, (refl, (refl, tt))) (λ e. omega (arith, e)) before
-    (passes_wider (coded M pace is_pace) before before [] (Here (negsuc 0) (pos 0) 1 1 []) (Here (negsuc 0) (pos 0) 1 1 []) (place 1 0) (before_choice 1 1) (λ s now h. h) (λ s now h. h) among
-    (goes M pace is_pace (pos 0) (pos 0) 1 0 [] (negsuc 0) (pos 0) 1 1 [] (start_function M) (sets region (negsuc 0)) refl refl refl (sets_region M (pos 0) (pos 0) (negsuc 0) (frame 1 0) []))))))
+    (holds config (whole M (Some st.start.body) None) (first_state M) before (record { slots = first; is = refl; holds = first_stands M is })
+    (chooses M is pace is_pace Inactive (one_inactive M is) 1 1 (start_function (control_of M) M) st.start.body None st.there refl (ap (λ starts. Some (sets (control_of M).chosen (pos (start_body starts)))) st.is, (refl, (refl, tt))) (λ e. omega (arith, e)) before
+    (passes_wider (coded M pace is_pace) before before [] (Here L 1 1 []) (Here L 1 1 []) (place 1 0) (before_choice 1 1) (λ s now h. h) (λ s now h. h) among
+    (goes M pace is_pace K 1 0 [] L 1 1 [] (start_function (control_of M) M) (sets region (negsuc 0)) refl refl refl
+    (sets_region M Between Inactive NoLeaf (negsuc 0) (frame 1 0) [] (left_number M is) (0, refl)))))))
   where
     among : Among (place 1 0) (before_choice 1 1)
     among f q x = let e = x.1 in (x.0, omega (arith, e), omega (arith, e))
@@ -345,33 +298,35 @@ handler_there M (g ∷ hs) k h plain known found = choose (is_input k g.trigger)
     choose false e later = later e
 
 -- where the choices of a signal stand
-pub choice_placed : (M : Model) (k st : ℕ) (d : StateDef) (h : Handler) → slice_get (states_of M) st ≡ Some d → handler_in k d.handlers ≡ Some h → ChoiceAt (signal_code M k) (choice_cases k 0 2 (states_of M)) 2 (2 + length (choices_code k (states_of M))) st h.body
+pub choice_placed : (M : Model) (k st : ℕ) (d : StateDef) (h : Handler) → slice_get (states_of M) st ≡ Some d → handler_in k d.handlers ≡ Some h → ChoiceAt (control_of M) (signal_code (control_of M) M k) (choice_cases k 0 2 (states_of M)) 2 (2 + length (choices_code (control_of M) k (states_of M))) st h.body
 choice_placed M k st d h at has =
-    let before = instr.Branch is_stopped (signal_end M k) ∷ instr.Table (read region) (choice_cases k 0 2 (states_of M)) (signal_end M k) ∷ [] in
-    subst (λ n. ChoiceAt (signal_code M k) (choice_cases k 0 2 (states_of M)) 2 (2 + length (choices_code k (states_of M))) n h.body) (none_more st)
-    (handled_placed k 0 st before (instr.Back ∷ []) (states_of M) d h at has)
+    let before = instr.Branch (is_stopped (control_of M)) (signal_end (control_of M) M k) ∷ instr.Table (read region) (choice_cases k 0 2 (states_of M)) (signal_end (control_of M) M k) ∷ [] in
+    subst (λ n. ChoiceAt (control_of M) (signal_code (control_of M) M k) (choice_cases k 0 2 (states_of M)) 2 (2 + length (choices_code (control_of M) k (states_of M))) n h.body) (none_more st)
+    (handled_placed (control_of M) k 0 st before (instr.Back ∷ []) (states_of M) d h at has)
 
 -- behind them the function ends
-pub end_placed : (M : Model) (k : ℕ) → slice_get (signal_code M k) (signal_end M k) ≡ Some instr.Back
+pub end_placed : (M : Model) (k : ℕ) → slice_get (signal_code (control_of M) M k) (signal_end (control_of M) M k) ≡ Some instr.Back
 end_placed M k =
-    let before = instr.Branch is_stopped (signal_end M k) ∷ instr.Table (read region) (choice_cases k 0 2 (states_of M)) (signal_end M k) ∷ choices_code k (states_of M) in
-    ap (slice_get (signal_code M k)) (two_more (length (choices_code k (states_of M)))) ∙ (has_at before (instr.Back ∷ []) []).0
+    let before = instr.Branch (is_stopped (control_of M)) (signal_end (control_of M) M k) ∷ instr.Table (read region) (choice_cases k 0 2 (states_of M)) (signal_end (control_of M) M k) ∷ choices_code (control_of M) k (states_of M) in
+    ap (slice_get (signal_code (control_of M) M k)) (two_more (length (choices_code (control_of M) k (states_of M)))) ∙ (has_at before (instr.Back ∷ []) []).0
   where
     two_more : (n : ℕ) → 2 + n ≡ suc (suc n)
     two_more n = omega (arith)
 
 -- from the beginning of a signal's function to where its table leads
-signal_passes : (M : Model) → IsBasic M → (pace : Pace) (is_pace : IsPace pace) (k : ℕ) (signal : Signals.Signal) (placed : SignalAt M k signal) (r x : ℤ) (to : ℕ) → case_of r (choice_cases k 0 2 (states_of M)) (signal_end M k) ≡ to → 2 ≤ to
-    → Passes (coded M pace is_pace) (Here r x placed.function 0 []) [] (Here r x placed.function to []) (before_choice placed.function to)
-signal_passes M is pace is_pace k signal placed r x to leads le =
+signal_passes : (M : Model) → IsBasic M → (pace : Pace) (is_pace : IsPace pace) (k : ℕ) (signal : Signals.Signal) (placed : SignalAt M k signal) (mark : Mark) (n to : ℕ) → (numbers_of M.root mark).leaf ≡ Leaf n → case_of (pos n) (choice_cases k 0 2 (states_of M)) (signal_end (control_of M) M k) ≡ to → 2 ≤ to
+    → Passes (coded M pace is_pace) (Here (StandsAs M mark) placed.function 0 []) [] (Here (StandsAs M mark) placed.function to []) (before_choice placed.function to)
+signal_passes M is pace is_pace k signal placed mark n to leaf leads le =
     let f = placed.function in
-    let g = signal_function M k signal in
-    let slots = slots_at r x in
-    passes_wider (coded M pace is_pace) (Here r x f 0 []) (Here r x f 0 []) [] (Here r x f to []) (Here r x f to []) (either (place f 0) (place f 1)) (before_choice f to) (λ s now h. h) (λ s now h. h) among
-    (passes_on (coded M pace is_pace) (Here r x f 0 []) [] (Here r x f 1 []) [] (Here r x f to []) (place f 0) (place f 1)
-    (goes M pace is_pace r x f 0 [] r x f 1 [] g (instr.Branch is_stopped (signal_end M k)) (serves_nothing M f 0 placed.other) placed.at refl (not_stopped M r x (frame f 0) [] (signal_end M k)))
-    (goes M pace is_pace r x f 1 [] r x f to [] g (instr.Table (read region) (choice_cases k 0 2 (states_of M)) (signal_end M k)) (serves_nothing M f 1 placed.other) placed.at refl
-    (table_of_region M r x (frame f 1) [] (choice_cases k 0 2 (states_of M)) (signal_end M k) ∙ ap (λ q. quiet (Running slots (frame f q) [])) leads))
+    let g = signal_function (control_of M) M k signal in
+    let K = StandsAs M mark in
+    let cases = choice_cases k 0 2 (states_of M) in
+    let end = signal_end (control_of M) M k in
+    passes_wider (coded M pace is_pace) (Here K f 0 []) (Here K f 0 []) [] (Here K f to []) (Here K f to []) (either (place f 0) (place f 1)) (before_choice f to) (λ s now h. h) (λ s now h. h) among
+    (passes_on (coded M pace is_pace) (Here K f 0 []) [] (Here K f 1 []) [] (Here K f to []) (place f 0) (place f 1)
+    (goes M pace is_pace K f 0 [] K f 1 [] g (instr.Branch (is_stopped (control_of M)) end) (serves_nothing M f 0 placed.other) placed.at refl (not_stopped M mark (frame f 0) [] end))
+    (goes M pace is_pace K f 1 [] K f to [] g (instr.Table (read region) cases end) (serves_nothing M f 1 placed.other) placed.at refl
+    (leads_to M K (frame f 1) [] (instr.Table (read region) cases end) K (case_of (pos n) cases end) to f leads (table_of_region M mark n (frame f 1) [] cases end leaf)))
     apart)
   where
     among : Among (either (place placed.function 0) (place placed.function 1)) (before_choice placed.function to)
@@ -382,52 +337,41 @@ signal_passes M is pace is_pace k signal placed r x to leads le =
     apart f q x y = let a = x.1 in let b = y.1 in omega (arith, a, b)
 
 -- what a state does with the signal
-pub takes_by : (M : Model) → IsBasic M → (pace : Pace) (is_pace : IsPace pace) (k : ℕ) (vs : List Value) (sent : IsSent M k vs) (placed : SignalAt M k sent.signal) (st : ℕ) (d : StateDef) (x : ℤ) → slice_get (states_of M) st ≡ Some d → StateIs M d
-    → (o : Option Handler) → handler_in k d.handlers ≡ o → Answered M pace is_pace (Here (pos st) x placed.function 0 []) (step M (At st Basic) (Shows.Signal k vs))
-takes_by M is pace is_pace k vs sent placed st d x at st_is None none =
+pub takes_by : (M : Model) → IsBasic M → (pace : Pace) (is_pace : IsPace pace) (k : ℕ) (vs : List Value) (sent : IsSent M k vs) (placed : SignalAt M k sent.signal) (st : ℕ) (d : StateDef) → slice_get (states_of M) st ≡ Some d → StateIs M d
+    → (o : Option Handler) → handler_in k d.handlers ≡ o → Answered M pace is_pace (Here (StandsAs M (marked (At st Basic))) placed.function 0 []) (step M (At st Basic) (Shows.Signal k vs))
+takes_by M is pace is_pace k vs sent placed st d at st_is None none =
     let f = placed.function in
-    let before = Here (pos st) x f 0 [] in
-    let last = signal_end M k in
+    let K = StandsAs M (marked (At st Basic)) in
+    let before = Here K f 0 [] in
+    let last = signal_end (control_of M) M k in
     let to : case_of (pos st) (choice_cases k 0 2 (states_of M)) last ≡ last =
     ap (λ m. case_of (pos m) (choice_cases k 0 2 (states_of M)) last) (sym (none_more st))
     ∙ not_handled k 0 st 2 (states_of M) d last at none in
     let X = either (before_choice f last) (place f last) in
-    let rest : (s : State) (now : Config) → Left (pos st) x s now → Returned (Rests M) Halts (machine_of M) (Done (At st Basic)) s now = λ s now left. (
-      slots_at (pos st) x,
-      left.is,
-      record {
-        state = st;
-        def = d;
-        x = x;
-        is = refl;
-        there = at;
-        holds = refl;
-        variables = left.bare.variables;
-        timers = left.bare.timers;
-      },
-    ) in
+    let rest = rests_there M is st d at in
     record {
       ways = behind X no_places;
       carries = λ fuel.
           same_doing (coded M pace is_pace) fuel (gives (At st Basic)) (step M (At st Basic) (Shows.Signal k vs)) before (Returned (Rests M) Halts (machine_of M)) (behind X no_places) (λ n s. step_discards M st d k vs n s at st_is none)
-          (passes_then (coded M pace is_pace) fuel (gives (At st Basic)) before [] (Left (pos st) x) (Returned (Rests M) Halts (machine_of M)) X no_places
-          (passes_on (coded M pace is_pace) before [] (Here (pos st) x f last []) [] (Left (pos st) x) (before_choice f last) (place f last)
-          (signal_passes M is pace is_pace k sent.signal placed (pos st) x last to (omega (arith)))
-          (returns M pace is_pace (pos st) x f last (signal_function M k sent.signal) (serves_nothing M f last placed.other) placed.at (end_placed M k))
+          (passes_then (coded M pace is_pace) fuel (gives (At st Basic)) before [] (Left K) (Returned (Rests M) Halts (machine_of M)) X no_places
+          (passes_on (coded M pace is_pace) before [] (Here K f last []) [] (Left K) (before_choice f last) (place f last)
+          (signal_passes M is pace is_pace k sent.signal placed (marked (At st Basic)) st last (leaf_is M is st d at) to (omega (arith)))
+          (returns M pace is_pace K f last (signal_function (control_of M) M k sent.signal) (serves_nothing M f last placed.other) placed.at (end_placed M k))
           (last_apart f last))
-          (ends_at_once (coded M pace is_pace) fuel (Done (At st Basic)) (Left (pos st) x) (Returned (Rests M) Halts (machine_of M)) no_places (done≢out (At st Basic)) (omega (arith)) rest)
+          (ends_at_once (coded M pace is_pace) fuel (Done (At st Basic)) (Left K) (Returned (Rests M) Halts (machine_of M)) no_places (done≢out (At st Basic)) (omega (arith)) rest)
           (λ g q u v. u) (λ g q u v. u));
     }
   where
     last_apart : (f p : ℕ) → Apart (place f p) (before_choice f p)
     last_apart f p g q x y = let a = x.1 in let b = y.2 in omega (arith, a, b)
-takes_by M is pace is_pace k vs sent placed st d x at st_is (Some h) has =
+takes_by M is pace is_pace k vs sent placed st d at st_is (Some h) has =
     let f = placed.function in
-    let before = Here (pos st) x f 0 [] in
+    let K = StandsAs M (marked (At st Basic)) in
+    let before = Here K f 0 [] in
     let choice = choice_placed M k st d h at has in
     let facts = handler_there M d.handlers k h st_is.inputs st_is.bodies has in
-    let taken = chooses M is pace is_pace (pos st) x f choice.place (signal_function M k sent.signal) h.body (Some st) facts.1 placed.at choice.code_there placed.other before
-    (signal_passes M is pace is_pace k sent.signal placed (pos st) x choice.place (choice.leads (signal_end M k)) choice.from) in
+    let taken = chooses M is pace is_pace (marked (At st Basic)) (one_at M is st d at) f choice.place (signal_function (control_of M) M k sent.signal) h.body (Some st) facts.1 placed.at choice.code_there placed.other before
+    (signal_passes M is pace is_pace k sent.signal placed (marked (At st Basic)) st choice.place (leaf_is M is st d at) (choice.leads (signal_end (control_of M) M k)) choice.from) in
     record {
       ways = taken.ways;
       carries = λ fuel.
@@ -441,14 +385,14 @@ signal_begins M is k vs sent slots =
     ap (λ fields. entered (place_in (interface.signal_function M k) (flat_function_names (code_of M))) (inputs_set M (slot_names (code_of M)) fields vs slots)) (no_inputs M is.basic k sent.signal sent.at)
     ∙ ap (λ o. entered o slots) placed.placed
 
-signal_with : (M : Model) → IsBasic M → (pace : Pace) (is_pace : IsPace pace) (P : Holds) → WhereCarried M pace is_pace P → (k : ℕ) (vs : List Value) → IsSent M k vs → (st : ℕ) (d : StateDef) (x : ℤ) (s : State) → slice_get (states_of M) st ≡ Some d → HasNoData s → P ((machine_of M).begin (Some (Shows.Signal k vs)) (slots_at (pos st) x)) (step M (At st Basic) (Shows.Signal k vs)) s
-signal_with M is pace is_pace P holds k vs sent st d x s at bare =
+signal_with : (M : Model) → IsBasic M → (pace : Pace) (is_pace : IsPace pace) (P : Holds) → WhereCarried M pace is_pace P → (k : ℕ) (vs : List Value) → IsSent M k vs → (st : ℕ) (d : StateDef) (s : State) (slots : List Cells) → slice_get (states_of M) st ≡ Some d → StandsAs M (marked (At st Basic)) s slots
+    → P ((machine_of M).begin (Some (Shows.Signal k vs)) slots) (step M (At st Basic) (Shows.Signal k vs)) s
+signal_with M is pace is_pace P holds k vs sent st d s slots at stands =
     let placed = signal_at M is.fair k sent.signal sent.at sent.incoming in
-    let slots = slots_at (pos st) x in
     let config : Config = Running slots (frame placed.function 0) [] in
     subst (λ c. P c (step M (At st Basic) (Shows.Signal k vs)) s) (sym (signal_begins M is k vs sent slots))
-    (holds config (step M (At st Basic) (Shows.Signal k vs)) s (Here (pos st) x placed.function 0 []) (record { is = refl; bare = bare })
-    (takes_by M is pace is_pace k vs sent placed st d x at (state_is M is.formed is.basic st d at) (handler_in k d.handlers) refl))
+    (holds config (step M (At st Basic) (Shows.Signal k vs)) s (Here (StandsAs M (marked (At st Basic))) placed.function 0 []) (record { slots = slots; is = refl; holds = stands })
+    (takes_by M is pace is_pace k vs sent placed st d at (state_is M is.formed is.basic st d at) (handler_in k d.handlers) refl))
 
 pub no_timer : (M : Model) → IsBasic M → (t : ℕ) → IsTrue (nat_lt t (length M.timers)) → ⊥
 no_timer M is t sent = no_number (ltb-true t (length M.timers) sent)
@@ -459,20 +403,22 @@ no_timer M is t sent = no_number (ltb-true t (length M.timers) sent)
 -- the code carries out each stimulus; no timer expires, since there is none
 pub takes_with : (M : Model) → IsBasic M → (pace : Pace) (is_pace : IsPace pace) (P : Holds) → WhereCarried M pace is_pace P → (a : Active) (s : State) (slots : List Cells) → Rests M a s slots → (x : Stimulus) → IsTrue (is_stimulus M x) → P ((machine_of M).begin (Some x) slots) (step M a x) s
 takes_with M is pace is_pace P holds a s slots rests (Shows.Signal k vs) sent =
-    rw rests.is
-    (rw rests.holds
-    (signal_with M is pace is_pace P holds k vs (sent_by M k vs (slice_get M.signals k) refl sent) rests.state rests.def rests.x s rests.there (record { variables = rests.variables; timers = rests.timers })))
+    let here = in_state M is a rests.active in
+    rw here.is
+    (signal_with M is pace is_pace P holds k vs (sent_by M k vs (slice_get M.signals k) refl sent) here.state here.def s slots here.there
+    (subst (λ b. StandsAs M (marked b) s slots) here.is rests.holds))
 takes_with M is pace is_pace P holds a s slots rests (Shows.Expiry t) sent = absurd (no_timer M is t sent)
 
 -- ---- the whole
 
+slots_once : (M : Model) → Fair (code_of M) M → has_twice (slot_names (code_of M)) ≡ false
+slots_once M fair =
+    once_before (slot_names (code_of M)) (map (λ (e : Word). e.bytes) (code_of M).events)
+    (once_before (slot_names (code_of M) ++ map (λ (e : Word). e.bytes) (code_of M).events) (flat_function_names (code_of M)) (not_true (has_twice (names_of (code_of M))) fair.differ))
+
 rest_is_shown : (M : Model) → IsBasic M → (a : Active) (s : State) (slots : List Cells) → Rests M a s slots → (machine_of M).ending slots ≡ Shows.Rest (paths_of M.root a) s.store.variables s.timers
 rest_is_shown M is a s slots rests =
-    ap (λ cells. end_of M (slot_names (code_of M)) cells) rests.holds
-    ∙ shows_rest M is rests.state rests.def rests.x rests.there
-    ∙ ap (λ paths. Shows.Rest paths [] []) (sym (ap (paths_of M.root) rests.is ∙ paths_are M rests.state rests.def rests.there))
-    ∙ ap (λ vs. Shows.Rest (paths_of M.root a) vs []) (sym rests.variables)
-    ∙ ap (λ ts. Shows.Rest (paths_of M.root a) s.store.variables ts) (sym rests.timers)
+    rest_is_read M (slot_names (code_of M)) slots (layout_of M) a s (slots_are_named M (slots_once M is.fair)) rests.active rests.holds.has rests.holds.stands
 
 abbrev AnswersWith : Model → Pace → ℕ → Holds
 AnswersWith M pace n config d s = Answers (Rests M) Halts (machine_of M) pace (paced_size pace (code_of M)) config n (d n s)

@@ -1,7 +1,6 @@
--- The flat code of a model, as a function of the model. Slots: the number of the active state, whether the process is stopped,
--- the four of a fault, and the number of the body that was chosen. `transition` carries out the chosen body: a table leads to
--- its code, which shows an event for each OUTPUT and ends by going to what enters the next state. `start` and the function of
--- each incoming signal choose a body and call `transition`. What no model of basic states has goes to the end.
+-- The flat code of a model, as a function of the model; its slots are those of Slots. `transition` carries out the chosen body: a
+-- table leads to its code, which shows an event for each OUTPUT and ends by going to what enters the next state. `start` and the
+-- function of each incoming signal choose a body and call `transition`. What no model of basic states has goes to the end.
 use Rattle.std.specs.Prelude.{ℕ, ◌+◌, ◌*◌, ℤ, pos, negsuc, Bool, false, cond, List, [], ◌∷◌, ◌++◌, map, length, slice_get, slice_set, unwrap_or, nat_eq, codes, Option, Some, None}
 use Rattle.og_names.specs.declared.Word.{Word}
 use Rattle.og_model.specs.declared.Model.{Model}
@@ -22,8 +21,6 @@ use Rattle.og_model.specs.declared.Ending.{Ending}
 use Rattle.og_model.specs.declared.EndKind.{EndKind}
 use Rattle.og_model.specs.declared.EndKind.TheVariants.{Next}
 use Rattle.og_ir.specs.declared.Ir.{Ir}
-use Rattle.og_ir.specs.declared.SlotDef.{SlotDef}
-use Rattle.og_ir.specs.declared.SlotSort.TheVariants as slot_sort
 use Rattle.og_ir.specs.declared.FlatFn.{FlatFn}
 use Rattle.og_ir.specs.declared.Instr.{Instr}
 use Rattle.og_ir.specs.declared.Instr.TheVariants as instr
@@ -33,7 +30,11 @@ use Rattle.og_ir.specs.declared.Flat.TheOpen as flat
 use Rattle.og_ir.specs.declared.FlatRel.TheVariants as rel
 use Rattle.og_ir.specs.declared.Test.{Test}
 use Rattle.og_ir.specs.declared.Case.{Case}
+use Rattle.og_model.specs.RegionTypes.{Region}
+use Rattle.og_model.specs.Regions.{regions}
 use Rattle.og_csubset.specs.Interface.{name_of, signal_name}
+use Rattle.og_flatten.specs.declared.code.Control.{Control}
+use Rattle.og_flatten.specs.Slots.{slots_for, control_behind}
 
 -- ---- parts of a model
 
@@ -74,16 +75,9 @@ word bytes = record { bytes = bytes }
 abbrev pub slot : ℕ → Slot
 slot base = record { base = base; path = [] }
 
--- the number of the active state
+-- the number of the active state of the process, the first of the regions
 abbrev pub region : ℕ
 region = 0
-
-abbrev pub stopped : ℕ
-stopped = 1
-
--- the number of the chosen body
-abbrev pub chosen : ℕ
-chosen = 6
 
 abbrev pub number : ℤ → Flat
 number n = roll-Flat (flat.Number n)
@@ -94,8 +88,8 @@ read base = roll-Flat (flat.Read (slot base))
 abbrev pub sets : ℕ → ℤ → Instr
 sets base n = instr.Set (slot base) (number n)
 
-abbrev pub is_stopped : Test
-is_stopped = record { op = rel.Ne; left = read stopped; right = number (pos 0) }
+abbrev pub is_stopped : Control → Test
+is_stopped control = record { op = rel.Ne; left = read control.stopped; right = number (pos 0) }
 
 -- a number of this list goes to this place
 abbrev pub case : ℕ → ℕ → Case
@@ -168,29 +162,35 @@ abbrev pub entering_code : ℕ → List StateDef → List Instr
 entering_code k [] = []
 entering_code k (d ∷ states) = sets region (pos k) ∷ instr.Back ∷ entering_code (k + 1) states
 
-abbrev pub transition_code : Model → List Instr
-transition_code model =
-    instr.Table (read chosen) (body_cases 0 1 (bodies_of model)) (end_place model)
+abbrev pub transition_code : Control → Model → List Instr
+transition_code control model =
+    instr.Table (read control.chosen) (body_cases 0 1 (bodies_of model)) (end_place model)
     ∷ (bodies_code model (bodies_of model) ++ (entering_code 0 (states_of model) ++ instr.Back ∷ []))
 
 -- ---- the code of `start` and of the signals
 
 -- chooses the body, calls `transition` and returns
-abbrev pub choice_code : ℕ → List Instr
-choice_code body = sets chosen (pos body) ∷ instr.Call 0 ∷ instr.Back ∷ []
+abbrev pub choice_code : Control → ℕ → List Instr
+choice_code control body = sets control.chosen (pos body) ∷ instr.Call 0 ∷ instr.Back ∷ []
 
 -- no state is active before the start
-abbrev pub start_code : Model → List Instr
-start_code model = sets region (negsuc 0) ∷ choice_code (start_body (starts_of model))
+abbrev pub start_code : Control → Model → List Instr
+start_code control model = sets region (negsuc 0) ∷ choice_code control (start_body (starts_of model))
 
-abbrev pub handled_code : Option Handler → List Instr
-handled_code None = []
-handled_code (Some h) = choice_code h.body
+abbrev pub handled_code : Control → Option Handler → List Instr
+handled_code control None = []
+handled_code control (Some h) = choice_code control h.body
 
 -- what the states do with the signal, one after the other
-abbrev pub choices_code : ℕ → List StateDef → List Instr
-choices_code signal [] = []
-choices_code signal (d ∷ states) = handled_code (handler_in signal d.handlers) ++ choices_code signal states
+abbrev pub choices_code : Control → ℕ → List StateDef → List Instr
+choices_code control signal [] = []
+choices_code control signal (d ∷ states) =
+    handled_code control (handler_in signal d.handlers) ++ choices_code control signal states
+
+-- three instructions choose a body
+abbrev pub handled_length : Option Handler → ℕ
+handled_length None = 0
+handled_length (Some h) = 3
 
 abbrev pub handled_case : ℕ → ℕ → Option Handler → List Case
 handled_case k place None = []
@@ -201,18 +201,18 @@ abbrev pub choice_cases : ℕ → ℕ → ℕ → List StateDef → List Case
 choice_cases signal k place [] = []
 choice_cases signal k place (d ∷ states) =
     handled_case k place (handler_in signal d.handlers)
-    ++ choice_cases signal (k + 1) (place + length (handled_code (handler_in signal d.handlers))) states
+    ++ choice_cases signal (k + 1) (place + handled_length (handler_in signal d.handlers)) states
 
 -- the place behind the choices
-abbrev pub signal_end : Model → ℕ → ℕ
-signal_end model signal = 2 + length (choices_code signal (states_of model))
+abbrev pub signal_end : Control → Model → ℕ → ℕ
+signal_end control model signal = 2 + length (choices_code control signal (states_of model))
 
 -- a process that has stopped, or whose active state has no handler of the signal, does nothing
-abbrev pub signal_code : Model → ℕ → List Instr
-signal_code model signal =
-    instr.Branch is_stopped (signal_end model signal)
-    ∷ instr.Table (read region) (choice_cases signal 0 2 (states_of model)) (signal_end model signal)
-    ∷ (choices_code signal (states_of model) ++ instr.Back ∷ [])
+abbrev pub signal_code : Control → Model → ℕ → List Instr
+signal_code control model signal =
+    instr.Branch (is_stopped control) (signal_end control model signal)
+    ∷ instr.Table (read region) (choice_cases signal 0 2 (states_of model)) (signal_end control model signal)
+    ∷ (choices_code control signal (states_of model) ++ instr.Back ∷ [])
 
 -- ---- labels, which tell a reader what the code is for
 
@@ -290,41 +290,46 @@ signal_labels model signal =
 
 -- ---- the whole
 
-abbrev pub cell : List ℕ → SlotDef
-cell name = record { name = word name; sort = slot_sort.Cell }
-
-abbrev pub slots : List SlotDef
-slots =
-    cell (codes "r") ∷ cell (codes "stopped") ∷ cell (codes "f_kind") ∷ cell (codes "f_file") ∷ cell (codes "f_line")
-    ∷ cell (codes "f_column") ∷ cell (codes "chosen") ∷ []
-
 -- an event for each signal, by the interface's name of its output
 abbrev pub event_word : Model → Signal → Word
 event_word model signal = word (codes "o_" ++ name_of model signal.name)
 
-abbrev pub transition_function : Model → FlatFn
-transition_function model =
-    record { name = word (codes "transition"); code = transition_code model; labels = transition_labels model }
+abbrev pub transition_function : Control → Model → FlatFn
+transition_function control model =
+    record { name = word (codes "transition"); code = transition_code control model; labels = transition_labels model }
 
-abbrev pub start_function : Model → FlatFn
-start_function model = record { name = word (codes "start"); code = start_code model; labels = start_labels }
+abbrev pub start_function : Control → Model → FlatFn
+start_function control model =
+    record { name = word (codes "start"); code = start_code control model; labels = start_labels }
 
-abbrev pub signal_function : Model → ℕ → Signal → FlatFn
-signal_function model k signal =
-    record { name = word (codes "on_" ++ name_of model signal.name); code = signal_code model k; labels = signal_labels model k }
+abbrev pub signal_function : Control → Model → ℕ → Signal → FlatFn
+signal_function control model k signal = record {
+  name = word (codes "on_" ++ name_of model signal.name);
+  code = signal_code control model k;
+  labels = signal_labels model k;
+}
 
 -- an incoming signal has a function
-abbrev pub function_if_incoming : Model → ℕ → Signal → List FlatFn
-function_if_incoming model k signal = cond signal.incoming (signal_function model k signal ∷ []) []
+abbrev pub function_if_incoming : Control → Model → ℕ → Signal → List FlatFn
+function_if_incoming control model k signal = cond signal.incoming (signal_function control model k signal ∷ []) []
 
 -- the functions of the signals from the k-th on
-abbrev pub signal_functions : Model → ℕ → List Signal → List FlatFn
-signal_functions model k [] = []
-signal_functions model k (s ∷ signals) =
-    function_if_incoming model k s ++ signal_functions model (k + 1) signals
+abbrev pub signal_functions : Control → Model → ℕ → List Signal → List FlatFn
+signal_functions control model k [] = []
+signal_functions control model k (s ∷ signals) =
+    function_if_incoming control model k s ++ signal_functions control model (k + 1) signals
 
-abbrev pub functions_of : Model → List FlatFn
-functions_of model = transition_function model ∷ start_function model ∷ signal_functions model 0 model.signals
+abbrev pub functions_of : Control → Model → List FlatFn
+functions_of control model =
+    transition_function control model ∷ start_function control model ∷ signal_functions control model 0 model.signals
+
+-- the code of a model with these slots and these regions
+abbrev pub code_for : Model → List Region → Ir
+code_for model rs = record {
+  slots = slots_for model rs;
+  events = map (event_word model) model.signals;
+  functions = functions_of (control_behind (length rs)) model;
+}
 
 abbrev pub code_of : Model → Ir
-code_of model = record { slots = slots; events = map (event_word model) model.signals; functions = functions_of model }
+code_of model = code_for model (regions model)

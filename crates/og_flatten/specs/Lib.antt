@@ -1,4 +1,5 @@
 pub mod Code
+pub mod Slots
 pub mod FlatCode
 pub mod Units
 pub mod Examples

@@ -4,7 +4,7 @@ ghost use Rattle.std.specs.Option.{option_copied};
 ghost use Rattle.og_flatten.specs.FlatCode.{start_function as start_function_of, signal_function as signal_function_of, start_body, start_code as start_code_of, start_labels as labels_of_start, choice_code, handler_in, is_input, handled_code, choices_code as choices_code_of, choice_cases as choice_cases_of, signal_code as signal_code_of, handled_labels, choices_labels as choices_labels_of, signal_labels as signal_labels_of, states_of};
 
 use crate::code::{
-    CHOSEN, REGION, TRANSITION, joined, leave_if_stopped, name_text, no_label, number_of, read,
+    Control, REGION, TRANSITION, joined, leave_if_stopped, name_text, no_label, number_of, read,
     set, sum_of, word_of,
 };
 use crate::labels::handler_label;
@@ -15,22 +15,23 @@ use sqlite_items::Items;
 use std::alloc::Global;
 
 /// The function of the start: no state is active, and the start transition is chosen.
-pub fn start_function(alloc: Global, model: &Model) -> Result<FlatFn, NoMemory>
-    ensures { IfOk result (λ function. function ≡ start_function_of model.now) }
+pub fn start_function(alloc: Global, control: Control, model: &Model) -> Result<FlatFn, NoMemory>
+    ensures { IfOk result (λ function. function ≡ start_function_of control model.now) }
 {
     Ok(FlatFn {
         name: word_of(alloc, b"start")?,
-        code: start_code(alloc, model)?,
+        code: start_code(alloc, control, model)?,
         labels: start_labels(alloc)?,
     })
 }
 
-fn start_code(alloc: Global, model: &Model) -> Result<Items<Instr>, NoMemory>
-    ensures { IfOk result (λ code. code ≡ start_code_of model.now) }
+fn start_code(alloc: Global, control: Control, model: &Model) -> Result<Items<Instr>, NoMemory>
+    ensures { IfOk result (λ code. code ≡ start_code_of control model.now) }
 {
     let mut code = Items::new(alloc);
     code.push(set(alloc, REGION, -1))?;
-    put_choice(alloc, &mut code, first_body(model.root.starts.as_slice()))?;
+    let body = first_body(model.root.starts.as_slice());
+    put_choice(alloc, control, &mut code, body)?;
     Ok(code)
 }
 
@@ -58,28 +59,34 @@ fn start_labels(alloc: Global) -> Result<Items<Word>, NoMemory>
 /// The function of an incoming signal: it chooses the handler of the active state, where there is one.
 pub fn signal_function(
     alloc: Global,
+    control: Control,
     model: &Model,
     number: u32,
     signal: &Signal,
 ) -> Result<FlatFn, NoMemory>
-    ensures { IfOk result (λ function. function ≡ signal_function_of model.now number signal.now) }
+    ensures { IfOk result (λ function. function ≡ signal_function_of control model.now number signal.now) }
 {
     Ok(FlatFn {
         name: joined(alloc, b"on_", name_text(model, signal.name))?,
-        code: signal_code(alloc, model, number)?,
+        code: signal_code(alloc, control, model, number)?,
         labels: signal_labels(alloc, model, number)?,
     })
 }
 
-fn signal_code(alloc: Global, model: &Model, signal: u32) -> Result<Items<Instr>, NoMemory>
-    ensures { IfOk result (λ code. code ≡ signal_code_of model.now signal) }
+fn signal_code(
+    alloc: Global,
+    control: Control,
+    model: &Model,
+    signal: u32,
+) -> Result<Items<Instr>, NoMemory>
+    ensures { IfOk result (λ code. code ≡ signal_code_of control model.now signal) }
 {
     let states = model.root.states.as_slice();
-    let choices = choices_code(alloc, states, signal)?;
+    let choices = choices_code(alloc, control, states, signal)?;
     let end = number_of(sum_of(2, choices.len())?)?;
     let cases = choice_cases(alloc, states, signal)?;
     let mut code = Items::new(alloc);
-    code.push(leave_if_stopped(alloc, end))?;
+    code.push(leave_if_stopped(alloc, control, end))?;
     code.push(Instr::Table(read(alloc, REGION), cases, end))?;
     code.append(choices)?;
     code.push(Instr::Back)?;
@@ -87,27 +94,33 @@ fn signal_code(alloc: Global, model: &Model, signal: u32) -> Result<Items<Instr>
 }
 
 /// What the states do with the signal, one after the other.
-fn choices_code(alloc: Global, states: &[StateDef], signal: u32) -> Result<Items<Instr>, NoMemory>
-    ensures { IfOk result (λ code. code ≡ choices_code_of signal states.now) }
+fn choices_code(
+    alloc: Global,
+    control: Control,
+    states: &[StateDef],
+    signal: u32,
+) -> Result<Items<Instr>, NoMemory>
+    ensures { IfOk result (λ code. code ≡ choices_code_of control signal states.now) }
 {
     let mut code = Items::new(alloc);
     for state in states {
-        put_handled(alloc, &mut code, state, signal)?;
+        put_handled(alloc, control, &mut code, state, signal)?;
     }
     Ok(code)
 }
 
 fn put_handled(
     alloc: Global,
+    control: Control,
     code: &mut Items<Instr>,
     state: &StateDef,
     signal: u32,
 ) -> Result<(), NoMemory>
-    ensures { OnOk result (code.new ≡ code.old ++ handled_code (handler_in signal state.now.handlers)) }
+    ensures { OnOk result (code.new ≡ code.old ++ handled_code control (handler_in signal state.now.handlers)) }
 {
     match handler_of(state, signal) {
         Some(handler) => {
-            put_choice(alloc, code, handler.body)?;
+            put_choice(alloc, control, code, handler.body)?;
             Ok(())
         }
         None => Ok(()),
@@ -155,10 +168,15 @@ fn takes(handler: &Handler, number: u32) -> bool
 }
 
 /// Chooses the body and calls for it, then returns.
-fn put_choice(alloc: Global, code: &mut Items<Instr>, body: u32) -> Result<(), NoMemory>
-    ensures { OnOk result (code.new ≡ code.old ++ choice_code body) }
+fn put_choice(
+    alloc: Global,
+    control: Control,
+    code: &mut Items<Instr>,
+    body: u32,
+) -> Result<(), NoMemory>
+    ensures { OnOk result (code.new ≡ code.old ++ choice_code control body) }
 {
-    code.push(set(alloc, CHOSEN, body as i64))?;
+    code.push(set(alloc, control.chosen, body as i64))?;
     code.push(Instr::Call(TRANSITION))?;
     code.push(Instr::Back)?;
     Ok(())

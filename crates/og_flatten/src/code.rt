@@ -2,6 +2,7 @@
 ghost use Rattle.std.specs.Prelude.{◌≡◌, ◌≤◌, ◌+◌, ◌^◌, ◌++◌, IfOk, IfErr};
 ghost use Rattle.og_ir.specs.declared.Instr.TheVariants as instr;
 ghost use Rattle.og_csubset.specs.Interface.{name_of};
+ghost use Rattle.og_flatten.specs.Slots.{control_behind as control_slots};
 ghost use Rattle.og_flatten.specs.FlatCode.{word, slot as whole_slot, read as reading, sets, is_stopped, no_label as empty_label, joined_label};
 
 use og_ir::{Flat, FlatRel, Instr, Slot, Test};
@@ -13,11 +14,24 @@ use std::alloc::Global;
 /// The slot with the number of the process's active state, negative where there is none.
 pub const REGION: u32 = 0;
 
-/// The slot that is not 0 once the process is stopped.
-pub const STOPPED: u32 = 1;
+/// The slots that steer the code. They stand behind those of the regions.
+#[derive(Clone, Copy)]
+pub struct Control {
+    /// Not 0 once the process is stopped.
+    pub stopped: u32,
+    /// What `transition` is called for: the number of a body.
+    pub chosen: u32,
+}
 
-/// The slot that says what `transition` is called for: the number of a body.
-pub const CHOSEN: u32 = 6;
+/// The slots that steer the code behind so many regions. 2^32 slots or more are told as want of memory.
+pub fn control_behind(regions: usize) -> Result<Control, NoMemory>
+    ensures { IfOk result (λ control. control ≡ control_slots regions) }
+{
+    Ok(Control {
+        stopped: number_of(regions)?,
+        chosen: number_of(sum_of(regions, 5)?)?,
+    })
+}
 
 /// The number of the function that carries out transitions.
 pub const TRANSITION: u32 = 0;
@@ -46,12 +60,12 @@ pub fn set(alloc: Global, base: u32, number: i64) -> Instr
 }
 
 /// Goes to the place where the process is stopped.
-pub fn leave_if_stopped(alloc: Global, to: u32) -> Instr
-    ensures { result ≡ instr.Branch is_stopped to }
+pub fn leave_if_stopped(alloc: Global, control: Control, to: u32) -> Instr
+    ensures { result ≡ instr.Branch (is_stopped control) to }
 {
     let test = Test {
         op: FlatRel::Ne,
-        left: read(alloc, STOPPED),
+        left: read(alloc, control.stopped),
         right: Flat::Number(0),
     };
     Instr::Branch(test, to)

@@ -1,9 +1,9 @@
 //! The function that carries out transitions.
 ghost use Rattle.std.specs.Prelude.{◌≡◌, ◌+◌, ◌*◌, ◌^◌, ◌<◌, ◌++◌, map, IfOk, OnOk};
 ghost use Rattle.og_ir.specs.declared.Instr.TheVariants as instr;
-ghost use Rattle.og_flatten.specs.FlatCode.{transition_function as transition_function_of, transition_code as transition_code_of, body_length as length_of_body, length_of_bodies, body_cases, end_place, read as reading, chosen, bodies_at, body_at, step_at, kind_at, entering_code};
+ghost use Rattle.og_flatten.specs.FlatCode.{transition_function as transition_function_of, transition_code as transition_code_of, body_length as length_of_body, length_of_bodies, body_cases, end_place, read as reading, bodies_at, body_at, step_at, kind_at, entering_code};
 
-use crate::code::{CHOSEN, REGION, number_of, read, set, sum_of, word_of};
+use crate::code::{Control, REGION, number_of, read, set, sum_of, word_of};
 use crate::labels::transition_labels;
 use og_ir::{Case, FlatFn, Instr};
 use og_model::{Action, Body, EndKind, Ending, Model, StateDef, Step};
@@ -12,19 +12,27 @@ use sqlite_items::Items;
 use std::alloc::Global;
 
 /// A table that leads to the body that was chosen; the bodies; for each state what enters it; and the end.
-pub fn transition_function(alloc: Global, model: &Model) -> Result<FlatFn, NoMemory>
-    ensures made { IfOk result (λ function. function ≡ transition_function_of model.now) }
+pub fn transition_function(
+    alloc: Global,
+    control: Control,
+    model: &Model,
+) -> Result<FlatFn, NoMemory>
+    ensures made { IfOk result (λ function. function ≡ transition_function_of control model.now) }
     ensures few { IfOk result (λ function. end_place model.now < 2 ^ 32) }
 {
     Ok(FlatFn {
         name: word_of(alloc, b"transition")?,
-        code: transition_code(alloc, model)?,
+        code: transition_code(alloc, control, model)?,
         labels: transition_labels(alloc, model)?,
     })
 }
 
-fn transition_code(alloc: Global, model: &Model) -> Result<Items<Instr>, NoMemory>
-    ensures made { IfOk result (λ code. code ≡ transition_code_of model.now) }
+fn transition_code(
+    alloc: Global,
+    control: Control,
+    model: &Model,
+) -> Result<Items<Instr>, NoMemory>
+    ensures made { IfOk result (λ code. code ≡ transition_code_of control model.now) }
     ensures few { IfOk result (λ code. end_place model.now < 2 ^ 32) }
 {
     let bodies = model.root.bodies.as_slice();
@@ -32,7 +40,7 @@ fn transition_code(alloc: Global, model: &Model) -> Result<Items<Instr>, NoMemor
     let entering = entering_place(bodies)?;
     let end = number_of(entering_of(entering, states.len())?)?;
     let mut code = Items::new(alloc);
-    code.push(choice(alloc, bodies, end)?)?;
+    code.push(choice(alloc, control, bodies, end)?)?;
     put_bodies(&mut code, bodies, entering, end)?;
     put_entering(alloc, &mut code, states)?;
     code.push(Instr::Back)?;
@@ -65,11 +73,16 @@ fn entering_of(entering: usize, number: usize) -> Result<usize, NoMemory>
 }
 
 /// The table that leads from the number of a body to its code.
-fn choice(alloc: Global, bodies: &[Body], end: u32) -> Result<Instr, NoMemory>
-    ensures { IfOk result (λ made. made ≡ instr.Table (reading chosen) (body_cases 0 1 bodies.now) end) }
+fn choice(
+    alloc: Global,
+    control: Control,
+    bodies: &[Body],
+    end: u32,
+) -> Result<Instr, NoMemory>
+    ensures { IfOk result (λ made. made ≡ instr.Table (reading control.chosen) (body_cases 0 1 bodies.now) end) }
 {
     let cases = choice_cases(alloc, bodies)?;
-    Ok(Instr::Table(read(alloc, CHOSEN), cases, end))
+    Ok(Instr::Table(read(alloc, control.chosen), cases, end))
 }
 
 fn choice_cases(alloc: Global, bodies: &[Body]) -> Result<Items<Case>, NoMemory>

@@ -21,15 +21,8 @@ use Rattle.og_csubset.specs.Kinds.{place_in}
 use Rattle.og_csubset.specs.Reads.{Globals, cells_named, number_named, value_of_field, value_of_shape, all_of, path_of, active_path, paths_in, end_without_fault, end_by_kind, end_of}
 use Rattle.og_layout.specs.Layout.{Layout, Held, A_value, A_number, Negative, Expected, HoldsAt, AllHold, Number, Leaf, NoLeaf, AnyLeaf, held_number, variables_in, timers_in, regions_in, besides, region_numbers, marked, told_path, told_by, told_paths, IsActive, StandsFor}
 use Rattle.og_layout.specs.Named.{AllNamed, IsNamed, HasAll, IsNumberOf, AreNumbersOf}
+use Rattle.og_layout.proofs.Holding.{first_hold, others_hold}
 use Rattle.og_layout.proofs.Telling.{numbers_tell, numbers_known}
-
-first_hold : (sorts : List Sort) (slots : List Cells) (xs ys : List Expected) → AllHold sorts slots (xs ++ ys) → AllHold sorts slots xs
-first_hold sorts slots [] ys all = tt
-first_hold sorts slots (x ∷ xs) ys all = (all.0, first_hold sorts slots xs ys all.1)
-
-others_hold : (sorts : List Sort) (slots : List Cells) (xs ys : List Expected) → AllHold sorts slots (xs ++ ys) → AllHold sorts slots ys
-others_hold sorts slots [] ys all = all
-others_hold sorts slots (x ∷ xs) ys all = others_hold sorts slots xs ys all.1
 
 module _ (M : Model) (names : List (List ℕ)) (slots : List Cells) where
   abbrev globals : Globals

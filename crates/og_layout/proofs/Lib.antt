@@ -1,3 +1,4 @@
 pub mod Written
 pub mod Telling
+pub mod Holding
 pub mod AtRest

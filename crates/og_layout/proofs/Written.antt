@@ -15,7 +15,7 @@ use Rattle.og_names.proofs.Truths.{same_value as some_is}
 
 -- ---- one slot
 
-changed_here : (k : ℕ) (f : Cells → Cells) (slots : List Cells) (old : Cells) → global k slots ≡ Some old → global k (change_global k f slots) ≡ Some (f old)
+pub changed_here : (k : ℕ) (f : Cells → Cells) (slots : List Cells) (old : Cells) → global k slots ≡ Some old → global k (change_global k f slots) ≡ Some (f old)
 changed_here k f [] old at = absurd (none-some old at)
 changed_here zero f (c ∷ slots) old at = ap (λ x. Some (f x)) (some_is c old at)
 changed_here (suc k) f (c ∷ slots) old at = changed_here k f slots old at

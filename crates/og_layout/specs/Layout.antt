@@ -27,7 +27,8 @@ pub record Layout : Type 0 where
   pub variables : List ℕ
   pub timers : List ℕ
   pub regions : List ℕ
-  -- the variables of procedures, the durations of timers and the values of signals
+  -- what the code works with (the variables of procedures, the place of a fault, the body that was chosen), the durations of
+  -- timers, and the values of signals
   pub locals : List ℕ
   pub durations : List ℕ
   pub parameters : List ℕ

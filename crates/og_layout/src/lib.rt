@@ -20,13 +20,33 @@ ghost use Rattle.og_ir.specs.Reading.{value_in, cells_of};
 ghost use Rattle.og_layout.specs.Examples.{numbers, process, in_a, in_d, in_both, at_rest};
 ghost use Rattle.og_layout.specs.Layout.{Mark, Active, Inactive, Between, Basic, Comp, Agg, NoParts, Part, Leaf, NoLeaf, AnyLeaf, numbers_of, marked, region_numbers, told_paths, IsActive};
 ghost use Rattle.og_layout.specs.Named.{IsNamed, HasAll};
-ghost use Rattle.og_layout.specs.Layout.{Layout, slots_of, Differ, Held, A_value, A_number, Holds, Expected, AllHold, once_written, Number, held_number, expected_of, StandsFor};
+ghost use Rattle.og_layout.specs.Layout.{Layout, slots_of, Differ, Held, A_value, A_number, Anything, Holds, Expected, HoldsAt, AllHold, once_written, Number, held_number, expected_of, StandsFor};
 
 /// Where cells are written into a slot, the slot holds what they hold, and the others hold what they held.
 pub fn written_slots_are_read()
     ensures { (sorts : List Sort) (slots : List Cells) (k : ℕ) (cells : Cells) (held : Held) (xs : List Expected)
         → AllHold sorts slots xs → Holds sorts held cells
         → AllHold sorts (change_global k (λ old. cells) slots) (once_written k held xs) }
+{}
+
+/// What slots hold that stand for a process: the values of its variables, whether its timers are active, the numbers of its
+/// regions, and that it has neither stopped nor failed. Every other slot of the layout is there.
+pub fn standing_slots_hold()
+    ensures variable { (M : Model) (layout : Layout) (mark : Mark) (s : State) (slots : List Cells) → StandsFor M layout mark s slots
+        → (i k : ℕ) (x : Variable) (v : Value) → slice_get layout.variables i ≡ Some k → slice_get M.variables i ≡ Some x
+        → slice_get s.store.variables i ≡ Some v → HoldsAt M.types slots (record { slot = k; held = A_value x.sort v }) }
+    ensures timer { (M : Model) (layout : Layout) (mark : Mark) (s : State) (slots : List Cells) → StandsFor M layout mark s slots
+        → (i k : ℕ) (b : Bool) → slice_get layout.timers i ≡ Some k → slice_get s.timers i ≡ Some b
+        → HoldsAt M.types slots (record { slot = k; held = A_number (pos (if b then 1 else 0)) }) }
+    ensures region { (M : Model) (layout : Layout) (mark : Mark) (s : State) (slots : List Cells) → StandsFor M layout mark s slots
+        → (i k : ℕ) (n : Number) → slice_get layout.regions i ≡ Some k → slice_get (region_numbers M mark) i ≡ Some n
+        → HoldsAt M.types slots (record { slot = k; held = held_number n }) }
+    ensures control { (M : Model) (layout : Layout) (mark : Mark) (s : State) (slots : List Cells) → StandsFor M layout mark s slots
+        → HoldsAt M.types slots (record { slot = layout.stopped; held = A_number (pos 0) })
+        × HoldsAt M.types slots (record { slot = layout.fault; held = A_number (pos 0) }) }
+    ensures others { (M : Model) (layout : Layout) (mark : Mark) (s : State) (slots : List Cells) → StandsFor M layout mark s slots
+        → (i k : ℕ) → slice_get (layout.locals ++ (layout.durations ++ layout.parameters)) i ≡ Some k
+        → HoldsAt M.types slots (record { slot = k; held = Anything }) }
 {}
 
 /// What is expected once a slot was written is what is expected of the process that has changed so: in a variable's value, in

@@ -9,6 +9,7 @@ use og_cprint::print_c;
 use og_flatten::flatten;
 use og_model::Model;
 use og_names::NoMemory;
+use og_regions::number;
 use std::alloc::Global;
 
 /// The text of the C of a model, which one program spells that does what the model does.
@@ -17,7 +18,8 @@ pub fn compile(alloc: Global, model: &Model) -> Result<Vec<u8>, NoMemory>
     requires basic { UsesBasicStatesOnly model.now }
     ensures { IfOk result (λ text. IsCompiled model.now text.items) }
 {
-    let ir = flatten(alloc, model)?;
+    let regions = number(alloc, model)?;
+    let ir = flatten(alloc, model, &regions)?;
     let program = emit(alloc, &ir, model)?;
     print_c(alloc, &program)
 }

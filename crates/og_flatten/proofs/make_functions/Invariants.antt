@@ -5,4 +5,4 @@ use Rattle.og_flatten.proofs.make_functions.Given as goal
 
 abbrev pub invariant-loop-number : goal.invariant-loop-number
 invariant-loop-number l =
-    Left (λ ys. l.functions ++ signal_functions l.model l.number ys) l.model.signals l.number (functions_of l.model)
+    Left (λ ys. l.functions ++ signal_functions l.control l.model l.number ys) l.model.signals l.number (functions_of l.control l.model)
