@@ -1,0 +1,5 @@
+pub mod Ends
+pub mod Left
+pub mod Back
+pub mod Holding
+pub mod Reached

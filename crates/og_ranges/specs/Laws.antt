@@ -1,0 +1,40 @@
+-- What holds of intervals: each has every value that its operator can give (`apply`, og_model/specs/Expressions), and those of
+-- sums, differences, products and signs have no number more than they need at either end. Of divisions that is not so.
+use Rattle.std.specs.Prelude.{◌≡◌, ℤ, pos, ◌+ℤ◌, ◌-ℤ◌, ◌*ℤ◌, ◌≤ℤ◌, neg_ℤ, Result, Ok}
+use Rattle.og_types.specs.declared.Value.{Value}
+use Rattle.og_model.specs.declared.FaultKind.{FaultKind}
+use Rattle.og_model.specs.declared.UnaryOp.TheVariants.{Minus}
+use Rattle.og_model.specs.declared.BinaryOp.{BinaryOp}
+use Rattle.og_model.specs.Expressions.{number_of, apply, unary}
+use Rattle.og_ranges.specs.declared.Interval.{Interval}
+use Rattle.og_ranges.specs.Intervals.{LiesIn, IsInterval, negative_of}
+
+-- of numbers of two intervals the operator gives, where it gives any, a number of the third
+abbrev pub GivesIn : BinaryOp → (Interval → Interval → Interval) → Type 0
+GivesIn op of =
+    (a b : Interval) (x y v : Value) → LiesIn (number_of x) a → LiesIn (number_of y) b → apply op x y ≡ Ok v
+    → LiesIn (number_of v) (of a b)
+
+-- the same where the right operand is not negative
+abbrev pub GivesInWherePositive : BinaryOp → (Interval → Interval → Interval) → Type 0
+GivesInWherePositive op of =
+    (a b : Interval) (x y v : Value) → pos 0 ≤ℤ b.lo → LiesIn (number_of x) a → LiesIn (number_of y) b → apply op x y ≡ Ok v
+    → LiesIn (number_of v) (of a b)
+
+-- of the sign
+abbrev pub SignGivesIn : Type 0
+SignGivesIn =
+    (a : Interval) (x v : Value) → LiesIn (number_of x) a → unary Minus x ≡ Ok v → LiesIn (number_of v) (negative_of a)
+
+-- numbers of the intervals give this one
+abbrev pub Reaches : (ℤ → ℤ → ℤ) → Interval → Interval → ℤ → Type 0
+Reaches f a b z = (x : ℤ) × (y : ℤ) × LiesIn x a × LiesIn y b × (f x y ≡ z)
+
+-- both ends are reached
+abbrev pub ReachesItsEnds : (ℤ → ℤ → ℤ) → (Interval → Interval → Interval) → Type 0
+ReachesItsEnds f of =
+    (a b : Interval) → a.lo ≤ℤ a.hi → b.lo ≤ℤ b.hi → Reaches f a b (of a b).lo × Reaches f a b (of a b).hi
+
+abbrev pub SignReachesItsEnds : Type 0
+SignReachesItsEnds =
+    (a : Interval) → a.lo ≤ℤ a.hi → ((x : ℤ) × LiesIn x a × (neg_ℤ x ≡ (negative_of a).lo)) × ((x : ℤ) × LiesIn x a × (neg_ℤ x ≡ (negative_of a).hi))

@@ -1,0 +1,10 @@
+//! Worked examples, computed from the definitions. The function does nothing, and its contract says what they give.
+ghost use Rattle.og_ranges.specs.Examples.{SumsAtTheirEdges, ProductsAtTheirEdges, QuotientsAtTheirEdges, RestsAtTheirEdges};
+
+/// Intervals at both ends of 64 bits, of one number, and around 0.
+pub fn intervals()
+    ensures sums { SumsAtTheirEdges }
+    ensures products { ProductsAtTheirEdges }
+    ensures quotients { QuotientsAtTheirEdges }
+    ensures rests { RestsAtTheirEdges }
+{}
