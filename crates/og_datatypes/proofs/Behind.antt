@@ -88,6 +88,10 @@ got_behind (x ∷ xs) ys k q (suc i) e g = got_behind xs ys k q i (omega (arith,
 
 -- ---- depths
 
+pub depth_is : greatest_depth ≡ 64
+unfolding greatest_depth
+depth_is = refl
+
 module _ (flat : Flat) where
   abbrev less_deep : ℕ → ℕ
   less_deep d = length (up_to flat d)
@@ -378,7 +382,7 @@ module _ (flat : Flat) (names : List (List ℕ)) (fits : Fits names flat) (i p :
           }
 
   pub may : MayStandBehind types (sort_of flat names p)
-  may = let f = found in record { sort = f.stands.right; depth = let a = f.stands.deep in let b = f.less in omega (arith, a, b) }
+  may = let f = found in record { sort = f.stands.right; depth = let a = f.stands.deep in let b = f.less in omega (arith, a, b, depth_is) }
 
   last_depth : depth (types ++ sort_of flat names p ∷ []) (record { 0 = length types }) ≡ depth_of_sort (depth types) (Some (sort_of flat names p))
   last_depth =

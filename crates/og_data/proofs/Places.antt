@@ -9,7 +9,7 @@ use Rattle.og_flat.specs.declared.flat.Flat.{Flat}
 use Rattle.og_names.proofs.Truths.{both_true, both_first, both_second}
 use Rattle.og_dataview.specs.View.{is_deeper, deeper, is_own, is_supported, opaque, up_to, in_order, all_nodes, greatest_depth, place_in}
 use Rattle.og_dataview.proofs.Tables.{Tabulated, none_behind}
-use Rattle.og_datatypes.specs.Kept.{Placed, AreNumbers}
+use Rattle.og_data.specs.Order.{Placed, AreNumbers}
 use Rattle.og_datatypes.proofs.Lists.{below_or_not}
 
 -- behind all others
@@ -158,5 +158,7 @@ pub back_all : (order : List ℕ) (nodes count back : ℕ) (numbers : List ℕ) 
 back_all order nodes count back numbers le placed = let z : count - back ≡ 0 = omega (arith, le) in subst (λ n. Placed order nodes n numbers) z placed
 
 pub ruleset placings = (placed_none)
+
+pub ruleset keeping = (placed_in, placed_out)
 
 pub ruleset backward = (back_first, back_more, back_all)

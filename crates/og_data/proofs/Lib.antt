@@ -1,0 +1,5 @@
+pub mod Orders
+pub mod Places
+pub mod Supported
+pub mod Declared
+pub mod Views
