@@ -44,6 +44,7 @@ impl Numbered {
     }
 
     /// The number of a type, which is that of the type that it names where it is another name of that one.
+    #[tactic(auto, using(crate::proofs::Places::number_is))]
     pub fn number(&self, place: u32) -> TypeId
         ensures { result ≡ type_number self.now.known.limited.valued.scope.flat place }
     {
@@ -60,7 +61,7 @@ fn number_at(numbers: &[u32], count: u32, place: u32) -> u32
 }
 
 /// The place of each type in an order of so many types.
-#[tactic(auto, using(crate::proofs::Places::placings, crate::proofs::Places::backward))]
+#[tactic(auto, using(crate::proofs::Places::placings))]
 fn places_in(alloc: Global, order: &[u32], count: u32, nodes: usize) -> Result<Vec<u32>, NoMemory>
     requires { count ≡ length order.now }
     ensures { IfOk result (λ numbers. Placed order.now nodes 0 numbers.items) }

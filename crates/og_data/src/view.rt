@@ -41,7 +41,7 @@ impl Numbered {
     }
 
     /// The types in the order of their numbers.
-    #[tactic(auto, using(og_datatypes::proofs::Behind::behind))]
+    #[tactic(auto, using(crate::proofs::InOrder::in_turn))]
     fn types(&self, alloc: Global, names: &Names) -> Result<TypeTable, NoMemory>
         requires { Fits names.now self.now.known.limited.valued.scope.flat }
         ensures { IfOk result (λ types. types ≡ map (sort_of self.now.known.limited.valued.scope.flat names.now) (in_order self.now.known.limited.valued.scope.flat)) }
