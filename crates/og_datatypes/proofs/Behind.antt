@@ -376,7 +376,7 @@ module _ (flat : Flat) (names : List (List ℕ)) (fits : Fits names flat) (i p :
           let none : is_supported flat p ≡ false = not_true (is_supported flat p) (both_second (is_own flat p) (not (is_supported flat p)) left) in
           record {
             d = 0;
-            less = omega arith;
+            less = omega (arith, depth_is);
             stands = subst (λ b. Stands types 0 (if b then sort_by flat names (type_number flat) p (slice_get flat.nodes p) else sort.Opaque)) (sym none) (opaque_stands types 0);
             deeper_than = λ x le lt. let less = less_by flat x greatest_depth le in absurd (omega (arith, less, lt, e));
           }
