@@ -1,5 +1,5 @@
 //! The numbers of types: their places in the order.
-ghost use Rattle.std.specs.Prelude.{◌≡◌, ◌+◌, ◌<◌, ◌^◌, ℕ, suc, IfOk, Some, length, slice_get, unwrap_or};
+ghost use Rattle.std.specs.Prelude.{◌≡◌, ℕ, suc, List, IfOk, Some, length, slice_get, unwrap_or};
 ghost use Rattle.og_dataview.specs.View.{in_order, is_supported, type_number};
 ghost use Rattle.og_datatypes.specs.Kept.{AreMarked};
 ghost use Rattle.og_data.specs.Order.{AreNumbers, Placed};
