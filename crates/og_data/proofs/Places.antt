@@ -94,9 +94,9 @@ all_below n xs = list_all (λ q. nat_lt q n) xs
 lacks : (n : ℕ) (xs : List ℕ) (p : ℕ) → all_below n xs ≡ true → n ≤ p → place_in xs p ≡ length xs
 lacks n [] p h le = refl
 lacks n (x ∷ xs) p h le =
-    let lt : x < n = ltb-true x n (both_first _ _ h) in
+    let lt : x < n = ltb-true x n (both_first (nat_lt x n) (all_below n xs) h) in
     let ne : x ≡ p → ⊥ = λ e. absurd (omega (arith, e, lt, le)) in
-    let rest : place_in xs p ≡ length xs = lacks n xs p (both_second _ _ h) le in
+    let rest : place_in xs p ≡ length xs = lacks n xs p (both_second (nat_lt x n) (all_below n xs) h) le in
     let one : 1 + place_in xs p ≡ suc (length xs) = omega (arith, rest) in
     ap (λ b. cond (not b) (1 + place_in xs p) 0) (ne_eqb x p ne) ∙ one
 
