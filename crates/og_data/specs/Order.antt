@@ -1,6 +1,6 @@
 -- What is found of the order of types before it is whole. The types are those of modules laid out flat (X.680 clauses 18 to
 -- 20 and 25); which of them come first is a rule of this project's own.
-use Rattle.std.specs.Prelude.{◌≡◌, ◌+◌, ◌<◌, ℕ, Bool, List, [], ◌∷◌, length, drop, slice_get, Option, Some, unwrap_or, not, ◌&&◌, if◌then◌else◌}
+use Rattle.std.specs.Prelude.{◌≡◌, ◌+◌, ◌<◌, ◌&&◌, ℕ, Bool, List, [], ◌∷◌, length, drop, slice_get, Some, unwrap_or, not, if◌then◌else◌}
 use Rattle.og_flat.specs.declared.flat.Flat.{Flat}
 use Rattle.og_dataview.specs.View.{is_own, is_within, up_to, place_in}
 use Rattle.og_datatypes.specs.Kept.{is_marked, AreMarked}

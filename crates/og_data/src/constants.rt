@@ -17,7 +17,8 @@ pub fn constants_of(
     valued: &Valued,
     names: &Names,
 ) -> Result<Items<Constant>, NoMemory>
-    ensures { IfOk result (λ constants. constants ≡ map (constant_in_view valued.now.scope.flat names.now) (enumerate_from 0 valued.now.scope.flat.constants)) }
+    ensures { IfOk result (λ constants.
+        constants ≡ map (constant_in_view valued.now.scope.flat names.now) (enumerate_from 0 valued.now.scope.flat.constants)) }
 {
     let declared = valued.scope.flat.constants.as_slice();
     let count = counted(declared.len())?;

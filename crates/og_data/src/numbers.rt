@@ -77,7 +77,8 @@ fn places_in(alloc: Global, order: &[u32], count: u32, nodes: usize) -> Result<V
 /// Keeps the place of a type, before others are kept that stand before it in the order.
 #[tactic(auto, using(crate::proofs::Places::keeping))]
 fn keep(numbers: &mut Vec<u32>, place: u32, at: u32)
-    ensures { (order : List ℕ) (nodes : ℕ) → slice_get order at ≡ Some place → Placed order nodes (suc at) numbers.old.items → Placed order nodes at numbers.new.items }
+    ensures { (order : List ℕ) (nodes : ℕ) → slice_get order at ≡ Some place →
+        Placed order nodes (suc at) numbers.old.items → Placed order nodes at numbers.new.items }
 {
     let place = place as usize;
     if place < numbers.len() {

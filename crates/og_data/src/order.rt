@@ -48,8 +48,9 @@ fn by_depth(alloc: Global, known: &Known) -> Result<Order, NoMemory>
 /// Adds the types that are one deeper than those that are marked.
 #[tactic(auto, using(crate::proofs::Orders::filters))]
 fn add_deeper(known: &Known, within: &[bool], next: &[bool], types: &mut Vec<u32>) -> Result<(), NoMemory>
-    ensures { OnOk result ((depth : ℕ) → AreMarked (is_within known.now.limited.valued.scope.flat depth) within.now → AreMarked (is_within known.now.limited.valued.scope.flat (suc depth)) next.now
-        → types.new.items ≡ types.old.items ++ deeper known.now.limited.valued.scope.flat depth) }
+    ensures { OnOk result ((depth : ℕ) → AreMarked (is_within known.now.limited.valued.scope.flat depth) within.now →
+        AreMarked (is_within known.now.limited.valued.scope.flat (suc depth)) next.now →
+        types.new.items ≡ types.old.items ++ deeper known.now.limited.valued.scope.flat depth) }
 {
     let count = counted(known.limited.valued.scope.flat.nodes.len())?;
     for place in 0..count {
@@ -61,7 +62,8 @@ fn add_deeper(known: &Known, within: &[bool], next: &[bool], types: &mut Vec<u32
 /// Adds the types that are opaque.
 #[tactic(auto, using(crate::proofs::Orders::filters))]
 fn add_opaque(known: &Known, supported: &[bool], types: &mut Vec<u32>) -> Result<(), NoMemory>
-    ensures { OnOk result (AreMarked (is_supported known.now.limited.valued.scope.flat) supported.now → types.new.items ≡ types.old.items ++ opaque known.now.limited.valued.scope.flat) }
+    ensures { OnOk result (AreMarked (is_supported known.now.limited.valued.scope.flat) supported.now →
+        types.new.items ≡ types.old.items ++ opaque known.now.limited.valued.scope.flat) }
 {
     let count = counted(known.limited.valued.scope.flat.nodes.len())?;
     for place in 0..count {

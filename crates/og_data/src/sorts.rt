@@ -5,7 +5,8 @@ ghost use Rattle.og_types.specs.Table.{in_64_bits};
 ghost use Rattle.og_types.specs.declared.Sort.TheVariants.{Bool, Enumerated};
 ghost use Rattle.og_dataview.specs.Following.{bounds};
 ghost use Rattle.og_dataview.specs.Violations.{given};
-ghost use Rattle.og_dataview.specs.View.{name_number, is_truth, is_supported, type_number, part_by, integer_sort, items_sort, size_of, sort_by, sort_of, enumerator_numbers as numbers_of_items};
+ghost use Rattle.og_dataview.specs.View.{name_number, is_truth, is_supported, type_number, part_by, integer_sort, items_sort, size_of};
+ghost use Rattle.og_dataview.specs.View.{sort_by, sort_of, enumerator_numbers as numbers_of_items};
 ghost use Rattle.og_datatypes.specs.Fitting.{IsFew};
 
 use crate::numbers::Numbered;
@@ -43,7 +44,8 @@ impl Numbered {
     /// A type that is supported.
     fn sort_by(&self, alloc: Global, names: &Names, place: u32) -> Result<Sort, NoMemory>
         requires { is_supported self.now.known.limited.valued.scope.flat place ≡ true }
-        ensures is { IfOk result (λ sort. sort ≡ sort_by self.now.known.limited.valued.scope.flat names.now (type_number self.now.known.limited.valued.scope.flat) place (slice_get self.now.known.limited.valued.scope.flat.nodes place)) }
+        ensures is { IfOk result (λ sort. sort ≡ sort_by self.now.known.limited.valued.scope.flat names.now
+            (type_number self.now.known.limited.valued.scope.flat) place (slice_get self.now.known.limited.valued.scope.flat.nodes place)) }
         ensures few { IfOk result IsFew }
     {
         match self.known.limited.valued.scope.flat.nodes.get(place as usize) {
@@ -78,7 +80,8 @@ impl Numbered {
     }
 
     fn reference(&self, place: u32, name: &Name, limits: &Limits) -> Sort
-        ensures is { result ≡ (if is_truth self.now.known.limited.valued.scope.flat name.now limits.now then Bool else integer_sort (bounds self.now.known.limited.valued.scope.flat place)) }
+        ensures is { result ≡ (if is_truth self.now.known.limited.valued.scope.flat name.now limits.now then Bool
+            else integer_sort (bounds self.now.known.limited.valued.scope.flat place)) }
         ensures few { IsFew result }
     {
         if self.known.limited.is_truth(name, limits) {
@@ -89,7 +92,8 @@ impl Numbered {
     }
 
     fn items(&self, limits: &Limits, item: u32) -> Sort
-        ensures is { result ≡ items_sort (size_of self.now.known.limited.valued.scope.flat limits.now) (type_number self.now.known.limited.valued.scope.flat item) }
+        ensures is { result ≡ items_sort (size_of self.now.known.limited.valued.scope.flat limits.now)
+            (type_number self.now.known.limited.valued.scope.flat item) }
         ensures few { IsFew result }
     {
         match self.known.limited.size_of(limits) {
@@ -125,7 +129,8 @@ impl Numbered {
 /// An enumeration whose written numbers lie in 64 bits.
 fn enumerated(alloc: Global, names: &Names, items: &[Enumerator]) -> Result<Sort, NoMemory>
     requires { list_all in_64_bits (flat_map given items.now) ≡ true }
-    ensures is { IfOk result (λ sort. sort ≡ Enumerated (map (λ item. name_number names.now item.name) items.now) (numbers_of_items items.now)) }
+    ensures is { IfOk result (λ sort. sort ≡ Enumerated (map (λ item. name_number names.now item.name) items.now)
+        (numbers_of_items items.now)) }
     ensures few { IfOk result IsFew }
 {
     let numbers = enumerator_numbers(alloc, items)?;

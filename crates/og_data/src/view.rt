@@ -44,7 +44,8 @@ impl Numbered {
     #[tactic(auto, using(crate::proofs::InOrder::in_turn))]
     fn types(&self, alloc: Global, names: &Names) -> Result<TypeTable, NoMemory>
         requires { Fits names.now self.now.known.limited.valued.scope.flat }
-        ensures { IfOk result (λ types. types ≡ map (sort_of self.now.known.limited.valued.scope.flat names.now) (in_order self.now.known.limited.valued.scope.flat)) }
+        ensures { IfOk result (λ types. types ≡ map (sort_of self.now.known.limited.valued.scope.flat names.now)
+            (in_order self.now.known.limited.valued.scope.flat)) }
     {
         let mut types = TypeTable::new(alloc);
         for place in self.order.types.as_slice() {
@@ -55,7 +56,8 @@ impl Numbered {
     }
 
     fn named_types(&self, alloc: Global, names: &Names) -> Result<Items<NamedType>, NoMemory>
-        ensures { IfOk result (λ named. named ≡ map (named_type self.now.known.limited.valued.scope.flat names.now) self.now.known.limited.valued.scope.flat.types) }
+        ensures { IfOk result (λ named. named ≡ map (named_type self.now.known.limited.valued.scope.flat names.now)
+            self.now.known.limited.valued.scope.flat.types) }
     {
         let mut named = Items::new(alloc);
         for declared in self.known.limited.valued.scope.flat.types.as_slice() {
