@@ -88,6 +88,10 @@ got_behind (x ∷ xs) ys k q (suc i) e g = got_behind xs ys k q i (omega (arith,
 
 -- ---- depths
 
+pub depth_is : greatest_depth ≡ 64
+unfolding greatest_depth
+depth_is = refl
+
 module _ (flat : Flat) where
   abbrev less_deep : ℕ → ℕ
   less_deep d = length (up_to flat d)
@@ -372,13 +376,13 @@ module _ (flat : Flat) (names : List (List ℕ)) (fits : Fits names flat) (i p :
           let none : is_supported flat p ≡ false = not_true (is_supported flat p) (both_second (is_own flat p) (not (is_supported flat p)) left) in
           record {
             d = 0;
-            less = omega arith;
+            less = omega (arith, depth_is);
             stands = subst (λ b. Stands types 0 (if b then sort_by flat names (type_number flat) p (slice_get flat.nodes p) else sort.Opaque)) (sym none) (opaque_stands types 0);
             deeper_than = λ x le lt. let less = less_by flat x greatest_depth le in absurd (omega (arith, less, lt, e));
           }
 
   pub may : MayStandBehind types (sort_of flat names p)
-  may = let f = found in record { sort = f.stands.right; depth = let a = f.stands.deep in let b = f.less in omega (arith, a, b) }
+  may = let f = found in record { sort = f.stands.right; depth = let a = f.stands.deep in let b = f.less in omega (arith, a, b, depth_is) }
 
   last_depth : depth (types ++ sort_of flat names p ∷ []) (record { 0 = length types }) ≡ depth_of_sort (depth types) (Some (sort_of flat names p))
   last_depth =

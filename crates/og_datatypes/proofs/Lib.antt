@@ -9,7 +9,3 @@ pub mod Declaring
 pub mod Fit
 pub mod Behind
 pub mod Standing
-pub mod Orders
-pub mod Places
-pub mod Supported
-pub mod Constants

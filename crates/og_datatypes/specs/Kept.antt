@@ -1,12 +1,12 @@
 -- Lists that keep what is found once of each type and of each constant. A place that a list does not have stands for
 -- none: it has no numbers, no value and no mark. The types and constants are those of modules laid out flat (X.680
 -- clauses 16, 18 to 20 and 25).
-use Rattle.std.specs.Prelude.{◌≡◌, ◌==◌, ℕ, Bool, false, List, Option, None, unwrap_or, slice_get, ℤ, pos, if◌then◌else◌, ◌<◌, ◌+◌, length, drop, Some}
+use Rattle.std.specs.Prelude.{◌≡◌, ◌==◌, ℕ, Bool, false, List, Option, None, unwrap_or, slice_get, ℤ, pos, if◌then◌else◌}
 use Rattle.og_types.specs.Table.{in_64_bits}
 use Rattle.og_flat.specs.declared.flat.Flat.{Flat}
 use Rattle.og_dataview.specs.declared.numbers.Interval.{Interval}
 use Rattle.og_dataview.specs.Following.{number_of, numbers_on, numbers_of, nothing}
-use Rattle.og_dataview.specs.View.{same_as, has_form, place_in}
+use Rattle.og_dataview.specs.View.{same_as, has_form}
 use Rattle.og_dataview.specs.Ways.{step_in}
 use Rattle.og_datatypes.specs.declared.limits.Bounds.{Bounds}
 use Rattle.og_datatypes.specs.declared.limits.Lengths.{Lengths}
@@ -63,14 +63,3 @@ form_at flat p = has_form flat p (slice_get flat.nodes p)
 -- a number of more than 64 bits is left out
 abbrev pub in_64_bits_or_0 : ℤ → ℤ
 in_64_bits_or_0 z = if in_64_bits z then z else pos 0
-
--- ---- the order of types
-
--- the place of each type in the order, and for others the number of all
-pub record AreNumbers (order : List ℕ) (count : ℕ) (numbers : List ℕ) : Type 0 where
-  pub each : (p : ℕ) → unwrap_or (slice_get numbers p) count ≡ place_in order p
-
--- the places of types in an order, which are known from one place on
-pub record Placed (order : List ℕ) (nodes at : ℕ) (numbers : List ℕ) : Type 0 where
-  pub long : length numbers ≡ nodes
-  pub each : (p : ℕ) → p < nodes → slice_get numbers p ≡ Some (at + place_in (drop at order) p)

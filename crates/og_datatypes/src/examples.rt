@@ -2,6 +2,7 @@
 ghost use Rattle.og_datatypes.specs.Examples.{BoundsAtTheirEdges, SizesAtTheirEdges, ConstantsBoundTypes, RangesLeaveLess, GapsAreFilled, NumbersAtTheirEdges, OpaquePartsAreOpaque, SixtyFourDeep};
 
 /// Types of views.
+#[tactic(auto, unfolding(og_dataview::specs::View::greatest_depth))]
 pub fn types()
     ensures bounds { BoundsAtTheirEdges }
     ensures sizes { SizesAtTheirEdges }

@@ -11,7 +11,7 @@ mod ranges;
 mod sames;
 mod values;
 
-pub use known::Known;
+pub use known::{Known, is_set};
 pub use laws::types_are_a_table;
 pub use limits::{Bounds, Lengths, Limited};
 pub use numbers::enumerator_numbers;

@@ -177,7 +177,8 @@ abbrev pub is_within : Flat → ℕ → ℕ → Bool
 is_within flat zero p = false
 is_within flat (suc depth) p = is_made_of flat (is_within flat depth) (same_as flat p)
 
-abbrev pub greatest_depth : ℕ
+-- it unfolds only where that is asked for
+unfoldable pub greatest_depth : ℕ
 greatest_depth = 64
 
 abbrev pub is_supported : Flat → ℕ → Bool

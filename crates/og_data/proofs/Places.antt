@@ -2,25 +2,31 @@
 use Rattle.std.proofs.Common.{◌≡◌, ℕ, zero, suc, ◌+◌, ◌-◌, ◌≤◌, ◌<◌, Bool, true, false, not, ◌&&◌, ◌==◌, cond, nat_lt, List, [], ◌∷◌, ◌++◌, length, drop, get_or, set, filter, slice_get, Option, Some, None, unwrap_or, refl, sym, ap, ◌∙◌, arith, ◌⊎◌, inl, inr, subst, eqb-true}
 use Rattle.std.specs.List.{range_with_len, list_all}
 use Rattle.std.proofs.lemmas.Bool.{lt-ltb, ltb-true, ne_eqb, eqb-false}
-use Rattle.std.proofs.lemmas.List.{at_drop_more, at_drop_all}
+use Rattle.std.proofs.Math.ListN.{replicate}
+use Rattle.std.proofs.lemmas.List.{at_drop_more, at_drop_all, length-replicate, get_or-replicate}
 use Rattle.std.proofs.lemmas.List.Folds.{list_all-append}
 use Rattle.std.proofs.lemmas.Option.{slice_get_within, get_or_from_slice_get, slice_get-get_or}
+use Rattle.og_types.specs.declared.TypeId.{TypeId}
 use Rattle.og_flat.specs.declared.flat.Flat.{Flat}
 use Rattle.og_names.proofs.Truths.{both_true, both_first, both_second}
-use Rattle.og_dataview.specs.View.{is_deeper, deeper, is_own, is_supported, opaque, up_to, in_order, all_nodes, greatest_depth, place_in}
-use Rattle.og_dataview.proofs.Tables.{Tabulated, none_behind}
-use Rattle.og_datatypes.specs.Kept.{Placed, AreNumbers}
+use Rattle.og_dataview.specs.View.{is_deeper, deeper, is_own, is_supported, opaque, up_to, in_order, all_nodes, greatest_depth, place_in, same_as, type_number}
+use Rattle.og_dataview.proofs.Tables.{none_behind}
+use Rattle.og_data.specs.Order.{Placed, AreNumbers}
 use Rattle.og_datatypes.proofs.Lists.{below_or_not}
 
 -- behind all others
-pub placed_none : (order : List ℕ) (nodes count : ℕ) (numbers : List ℕ) → count ≡ length order → Tabulated (λ (p : ℕ). count) numbers nodes → Placed order nodes (length order) numbers
-placed_none order nodes count numbers e tabulated =
-    let le : length order ≤ length order = omega arith in
-    let z : count ≡ length order + 0 = omega (arith, e) in
-    record {
-      long = tabulated.long;
-      each = λ p lt. tabulated.each p lt ∙ ap Some (z ∙ sym (at_drop_all (λ ys. length order + place_in ys p) order (length order) le));
-    }
+pub placed_none : (order : List ℕ) (nodes count : ℕ) (numbers : List ℕ) → count ≡ length order → numbers ≡ replicate nodes count → Placed order nodes (count - 0) numbers
+placed_none order nodes count numbers e is = subst (λ n. Placed order nodes n numbers) (let z : length order ≡ count - 0 = omega (arith, e) in z) (record {
+  long = ap length is ∙ length-replicate nodes count;
+  each = λ p lt. ap (λ xs. slice_get xs p) is ∙ slice_get-get_or (replicate nodes count) p count (omega (arith, lt, length-replicate nodes count))
+      ∙ ap Some (get_or-replicate nodes p count count lt ∙ behind p);
+})
+  where
+    behind : (p : ℕ) → count ≡ length order + place_in (drop (length order) order) p
+    behind p =
+        let le : length order ≤ length order = omega arith in
+        let z : count ≡ length order + 0 = omega (arith, e) in
+        z ∙ sym (at_drop_all (λ ys. length order + place_in ys p) order (length order) le)
 
 -- ---- one place
 
@@ -88,9 +94,9 @@ all_below n xs = list_all (λ q. nat_lt q n) xs
 lacks : (n : ℕ) (xs : List ℕ) (p : ℕ) → all_below n xs ≡ true → n ≤ p → place_in xs p ≡ length xs
 lacks n [] p h le = refl
 lacks n (x ∷ xs) p h le =
-    let lt : x < n = ltb-true x n (both_first _ _ h) in
+    let lt : x < n = ltb-true x n (both_first (nat_lt x n) (all_below n xs) h) in
     let ne : x ≡ p → ⊥ = λ e. absurd (omega (arith, e, lt, le)) in
-    let rest : place_in xs p ≡ length xs = lacks n xs p (both_second _ _ h) le in
+    let rest : place_in xs p ≡ length xs = lacks n xs p (both_second (nat_lt x n) (all_below n xs) h) le in
     let one : 1 + place_in xs p ≡ suc (length xs) = omega (arith, rest) in
     ap (λ b. cond (not b) (1 + place_in xs p) 0) (ne_eqb x p ne) ∙ one
 
@@ -134,16 +140,14 @@ numbers_are flat order numbers count nodes is long many placed = record { each =
         ap (λ o. unwrap_or o count) (none_behind numbers p (omega (arith, le, placed.long))) ∙ long ∙ ap length is
         ∙ sym (lacks (length flat.nodes) (in_order flat) p (order_below flat) (omega (arith, le, many)))
 
-pub count_is : (flat : Flat) (order : List ℕ) (count : ℕ) → order ≡ in_order flat → count ≡ length order → count ≡ length (in_order flat)
-count_is flat order count is long = long ∙ ap length is
+abbrev id : ℕ → TypeId
+id n = record { 0 = n }
+
+pub number_is : (flat : Flat) (numbers slice : List ℕ) (count own p n : ℕ) → AreNumbers (in_order flat) count numbers → slice ≡ numbers → own ≡ same_as flat p
+    → n ≡ unwrap_or (slice_get slice own) count → id n ≡ type_number flat p
+number_is flat numbers slice count own p n are same own_is is = ap id (is ∙ (λ i. unwrap_or (slice_get (same i) (own_is i)) count) ∙ are.each (same_as flat p))
 
 -- ---- the loop that goes back
-
-pub got_at : (order whole : List ℕ) (i d : ℕ) → order ≡ whole → i < length whole → slice_get whole i ≡ Some (get_or order i d)
-got_at order whole i d e lt = slice_get-get_or whole i d lt ∙ ap (λ xs. Some (get_or xs i d)) (sym e)
-
-pub back_first : (order : List ℕ) (nodes count : ℕ) (numbers : List ℕ) → count ≡ length order → Placed order nodes (length order) numbers → Placed order nodes (count - 0) numbers
-back_first order nodes count numbers e placed = let z : length order ≡ count - 0 = omega (arith, e) in subst (λ n. Placed order nodes n numbers) z placed
 
 pub back_more : (order : List ℕ) (nodes count back at d : ℕ) (old new : List ℕ) → back < count → count ≡ length order → at ≡ count - 1 - back
     → ((all : List ℕ) (many : ℕ) → slice_get all at ≡ Some (get_or order at d) → Placed all many (suc at) old → Placed all many at new) → Placed order nodes (count - back) old
@@ -157,6 +161,6 @@ back_more order nodes count back at d old new lt long is step before =
 pub back_all : (order : List ℕ) (nodes count back : ℕ) (numbers : List ℕ) → count ≤ back → Placed order nodes (count - back) numbers → Placed order nodes 0 numbers
 back_all order nodes count back numbers le placed = let z : count - back ≡ 0 = omega (arith, le) in subst (λ n. Placed order nodes n numbers) z placed
 
-pub ruleset placings = (placed_none)
+pub ruleset placings = (placed_none, back_more, back_all)
 
-pub ruleset backward = (back_first, back_more, back_all)
+pub ruleset keeping = (placed_in, placed_out)

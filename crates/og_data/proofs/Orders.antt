@@ -5,6 +5,8 @@ use Rattle.std.proofs.lemmas.List.Elements.{filter-append}
 use Rattle.og_flat.specs.declared.flat.Flat.{Flat}
 use Rattle.og_dataview.specs.View.{is_own, is_within, is_supported, is_deeper, deeper, opaque, up_to, in_order, all_nodes, greatest_depth}
 use Rattle.og_datatypes.specs.Kept.{is_marked, AreMarked}
+use Rattle.og_datatypes.proofs.Behind.{depth_is}
+use Rattle.og_data.specs.Order.{one_if, is_new, is_left, Ordered}
 
 range_next : (a n : ℕ) → range_with_len a (suc n) ≡ range_with_len a n ++ (a + n) ∷ []
 range_next a zero = let e : a ≡ a + 0 = omega arith in ap (λ m. m ∷ []) e
@@ -16,9 +18,6 @@ pub range_more : (n k : ℕ) → k ≡ suc n → range_with_len 0 k ≡ range_wi
 range_more n k e =
     let z : 0 + n ≡ n = omega arith in
     ap (range_with_len 0) e ∙ range_next 0 n ∙ ap (λ m. range_with_len 0 n ++ m ∷ []) z
-
-abbrev pub one_if : Bool → ℕ → List ℕ
-one_if b x = if b then x ∷ [] else []
 
 -- a list that was filtered so far, with one place more
 pub filtered_more : (test : ℕ → Bool) (old xs ys : List ℕ) (n : ℕ) (b : Bool) → ys ≡ xs ++ one_if b n → b ≡ test n → xs ≡ old ++ filter test (range_with_len 0 n)
@@ -33,12 +32,6 @@ filtered_first test old = sym (append-nil old)
 
 -- ---- one depth
 
-abbrev pub is_new : Flat → List Bool → List Bool → ℕ → Bool
-is_new flat within next p = is_own flat p && (is_marked next p && not (is_marked within p))
-
-abbrev pub is_left : Flat → List Bool → ℕ → Bool
-is_left flat supported p = is_own flat p && not (is_marked supported p)
-
 pub deeper_is : (flat : Flat) (within next : List Bool) (old new : List ℕ) (n : ℕ) → n ≡ length flat.nodes → new ≡ old ++ filter (is_new flat within next) (range_with_len 0 n)
     → (depth : ℕ) → AreMarked (is_within flat depth) within → AreMarked (is_within flat (suc depth)) next → new ≡ old ++ deeper flat depth
 deeper_is flat within next old new n long is depth w x =
@@ -52,29 +45,33 @@ pub ruleset filters = (filtered_first, filtered_more, deeper_is, opaque_is)
 
 -- ---- all depths
 
-pub record Ordered (flat : Flat) (depth : ℕ) (types : List ℕ) (within : List Bool) : Type 0 where
-  pub is : types ≡ up_to flat depth
-  pub marked : AreMarked (is_within flat depth) within
-
 pub ordered_none : (flat : Flat) → Ordered flat 0 [] []
 ordered_none flat = record { is = refl; marked = record { each = λ p. refl } }
 
-pub ordered_more : (flat : Flat) (depth : ℕ) (types types' : List ℕ) (within next : List Bool)
-    → ((d : ℕ) → AreMarked (is_within flat d) within → AreMarked (is_within flat (suc d)) next)
-    → ((d : ℕ) → AreMarked (is_within flat d) within → AreMarked (is_within flat (suc d)) next → types' ≡ types ++ deeper flat d)
+-- one depth more, where lists and slices of them are the same
+pub ordered_more : (flat : Flat) (depth : ℕ) (types types' : List ℕ) (within within' within'' next next' : List Bool) → within' ≡ within → within'' ≡ within → next' ≡ next
+    → ((d : ℕ) → AreMarked (is_within flat d) within' → AreMarked (is_within flat (suc d)) next)
+    → ((d : ℕ) → AreMarked (is_within flat d) within'' → AreMarked (is_within flat (suc d)) next' → types' ≡ types ++ deeper flat d)
     → Ordered flat depth types within → Ordered flat (depth + 1) types' next
-ordered_more flat depth types types' within next marks adds before =
+ordered_more flat depth types types' within within' within'' next next' a b c marks adds before =
     let e : suc depth ≡ depth + 1 = omega arith in
-    let m : AreMarked (is_within flat (suc depth)) next = marks depth before.marked in
-    subst (λ d. Ordered flat d types' next) e
-    (record { is = adds depth before.marked m ∙ ap (λ xs. xs ++ deeper flat depth) before.is; marked = m })
+    let m : AreMarked (is_within flat (suc depth)) next = marks depth (subst (AreMarked (is_within flat depth)) (sym a) before.marked) in
+    let more : types' ≡ types ++ deeper flat depth =
+    adds depth (subst (AreMarked (is_within flat depth)) (sym b) before.marked) (subst (AreMarked (is_within flat (suc depth))) (sym c) m)
+    in
+    subst (λ d. Ordered flat d types' next) e (record { is = more ∙ ap (λ xs. xs ++ deeper flat depth) before.is; marked = m })
 
-pub ordered_all : (flat : Flat) (depth : ℕ) (types types' : List ℕ) (within : List Bool) → depth ≡ 64
-    → (AreMarked (is_supported flat) within → types' ≡ types ++ opaque flat) → Ordered flat depth types within → types' ≡ in_order flat
-ordered_all flat depth types types' within e adds before =
-    adds (subst (λ d. AreMarked (is_within flat d) within) e before.marked) ∙ ap (λ xs. xs ++ opaque flat) (before.is ∙ ap (up_to flat) e)
+-- the depths are all that types of the view may have
+pub ordered_all : (flat : Flat) (depth : ℕ) (types : List ℕ) (within : List Bool) → 64 ≤ depth → depth ≤ 64 → Ordered flat depth types within → Ordered flat greatest_depth types within
+ordered_all flat depth types within le ge before =
+    let e : depth ≡ greatest_depth = omega (arith, le, ge, depth_is) in
+    subst (λ d. Ordered flat d types within) e before
 
-pub supported_all : (flat : Flat) (depth : ℕ) (types : List ℕ) (within : List Bool) → depth ≡ 64 → Ordered flat depth types within → AreMarked (is_supported flat) within
-supported_all flat depth types within e before = subst (λ d. AreMarked (is_within flat d) within) e before.marked
+pub order_is : (flat : Flat) (types all : List ℕ) (within within' : List Bool) → within' ≡ within → Ordered flat greatest_depth types within
+    → (AreMarked (is_supported flat) within' → all ≡ types ++ opaque flat) → all ≡ in_order flat
+order_is flat types all within within' e before adds = adds (subst (AreMarked (is_supported flat)) (sym e) before.marked) ∙ ap (λ xs. xs ++ opaque flat) before.is
 
-pub ruleset orders = (ordered_none, ordered_more, ordered_all, supported_all)
+pub supported_is : (flat : Flat) (types : List ℕ) (within : List Bool) → Ordered flat greatest_depth types within → AreMarked (is_supported flat) within
+supported_is flat types within before = before.marked
+
+pub ruleset orders = (ordered_none, ordered_more, ordered_all, order_is, supported_is)

@@ -1,0 +1,6 @@
+pub mod Orders
+pub mod Places
+pub mod Supported
+pub mod Declared
+pub mod InOrder
+pub mod Views
