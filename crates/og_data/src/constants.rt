@@ -4,8 +4,8 @@ ghost use Rattle.std.specs.List.{enumerate_from};
 ghost use Rattle.og_dataview.specs.View.{constant_in_view};
 
 use crate::sorts::name_number;
-use og_dataview::{Constant, counted};
 use og_datatypes::Valued;
+use og_dataview::{Constant, counted};
 use og_flat::ConstantNode;
 use og_names::{Names, NoMemory};
 use sqlite_items::Items;

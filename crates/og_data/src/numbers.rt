@@ -5,8 +5,8 @@ ghost use Rattle.og_datatypes.specs.Kept.{AreMarked};
 ghost use Rattle.og_data.specs.Order.{AreNumbers, Placed};
 
 use crate::order::{Order, order_of};
-use og_dataview::counted;
 use og_datatypes::Known;
+use og_dataview::counted;
 use og_names::NoMemory;
 use og_types::TypeId;
 use std::alloc::Global;

@@ -4,8 +4,8 @@ ghost use Rattle.og_dataview.specs.View.{greatest_depth, is_within, is_supported
 ghost use Rattle.og_datatypes.specs.Kept.{AreMarked};
 ghost use Rattle.og_data.specs.Order.{one_if, is_new, is_left, Ordered};
 
-use og_dataview::counted;
 use og_datatypes::{Known, is_set};
+use og_dataview::counted;
 use og_names::NoMemory;
 use std::alloc::Global;
 
@@ -47,7 +47,12 @@ fn by_depth(alloc: Global, known: &Known) -> Result<Order, NoMemory>
 
 /// Adds the types that are one deeper than those that are marked.
 #[tactic(auto, using(crate::proofs::Orders::filters))]
-fn add_deeper(known: &Known, within: &[bool], next: &[bool], types: &mut Vec<u32>) -> Result<(), NoMemory>
+fn add_deeper(
+    known: &Known,
+    within: &[bool],
+    next: &[bool],
+    types: &mut Vec<u32>,
+) -> Result<(), NoMemory>
     ensures { OnOk result ((depth : ℕ) → AreMarked (is_within known.now.limited.valued.scope.flat depth) within.now →
         AreMarked (is_within known.now.limited.valued.scope.flat (suc depth)) next.now →
         types.new.items ≡ types.old.items ++ deeper known.now.limited.valued.scope.flat depth) }

@@ -48,7 +48,15 @@ impl Numbered {
             (type_number self.now.known.limited.valued.scope.flat) place (slice_get self.now.known.limited.valued.scope.flat.nodes place)) }
         ensures few { IfOk result IsFew }
     {
-        match self.known.limited.valued.scope.flat.nodes.get(place as usize) {
+        match self
+            .known
+            .limited
+            .valued
+            .scope
+            .flat
+            .nodes
+            .get(place as usize)
+        {
             Some(Node::Integer { .. }) => Ok(self.integer(place)),
             Some(Node::Boolean) => Ok(Sort::Bool),
             Some(Node::Reference { name, limits }) => Ok(self.reference(place, name, limits)),
@@ -106,7 +114,12 @@ impl Numbered {
         }
     }
 
-    fn parts(&self, alloc: Global, names: &Names, parts: &[PartNode]) -> Result<Items<Part>, NoMemory>
+    fn parts(
+        &self,
+        alloc: Global,
+        names: &Names,
+        parts: &[PartNode],
+    ) -> Result<Items<Part>, NoMemory>
         ensures { IfOk result (λ list. list ≡ map (part_by names.now (type_number self.now.known.limited.valued.scope.flat)) parts.now) }
     {
         let mut list = Items::new(alloc);
