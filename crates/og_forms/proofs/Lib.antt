@@ -1,0 +1,4 @@
+pub mod Built
+pub mod FirstSoFar
+pub mod Opens
+pub mod Worked

@@ -1,0 +1,6 @@
+use Rattle.og_forms.specs.Forms.{in_system_part}
+use Rattle.og_forms.proofs.FirstSoFar.{Noted}
+use Rattle.og_forms.proofs.units.note_system_parts.Given as goal
+
+abbrev pub invariant-loop-part : goal.invariant-loop-part
+invariant-loop-part l = Noted in_system_part l.parts l.part-index l.first l.initial.first
