@@ -103,9 +103,9 @@ AssignedValueAndCall =
 abbrev pub CallsByName : Type 0
 CallsByName =
     in_transition (goes (
-      action_at 1 (Call (record { procedure = record { place = col 2; word = record { bytes = codes "Write" }; spelling = refl }; args = None }))
-      ∷ action_at 4 (Call (record { procedure = record { place = col 5; word = record { bytes = codes "set_timer" }; spelling = refl }; args = None }))
-      ∷ action_at 7 (Call (record { procedure = a_at 8; args = None })) ∷ []) None)
+    action_at 1 (Call (record { procedure = record { place = col 2; word = record { bytes = codes "Write" }; spelling = refl }; args = None }))
+    ∷ action_at 4 (Call (record { procedure = record { place = col 5; word = record { bytes = codes "set_timer" }; spelling = refl }; args = None }))
+    ∷ action_at 7 (Call (record { procedure = a_at 8; args = None })) ∷ []) None)
     ≡ at form.WriteCall (col 1) ∷ at form.TimerCall (col 4) ∷ at form.ProcedureCall (col 7) ∷ []
 
 -- OUTPUT a , b ( 1 ) ; NEXTSTATE a VIA b ;

@@ -129,7 +129,12 @@ fn note_assigned_calls(assigns: &[AssignTree], first: &mut Option<Violation>)
     ensures { first.new ≡ noted first.old (flat_map forms_in_assign assigns.now) }
 {
     for assign in assigns {
-        note_if(!is_value(assign), Form::AssignedCall, assign.target.name.place, first);
+        note_if(
+            !is_value(assign),
+            Form::AssignedCall,
+            assign.target.name.place,
+            first,
+        );
     }
 }
 
