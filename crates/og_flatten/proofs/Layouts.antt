@@ -80,12 +80,15 @@ module _ (r v t p : ℕ) where
       new_both k numbers (r ∷ (r + 1) ∷ (locals ++ (durations ++ parameters))) (new_range k 0 r (inr (omega (arith, le))))
       ((λ e. omega (arith, e, le)), ((λ e. omega (arith, e, le)), new_besides k (inr (omega (arith, le), lt)))))
       (range_before 0 r (r ∷ (r + 1) ∷ (locals ++ (durations ++ parameters)))
-      (λ k le lt. ((λ e. omega (arith, e, lt)), ((λ e. omega (arith, e, lt)), new_besides k (inl (omega (arith, lt))))))
-      (((λ e. omega (arith, e)), new_besides r (inl (omega (arith)))),
-      (new_besides (r + 1) (inl (omega (arith))),
-      range_before (r + 2) 4 (durations ++ parameters)
-      (λ k le lt. new_both k durations parameters (new_range k (r + 6 + v + t) t (inl (omega (arith, lt)))) (new_range k (r + 6 + v + t + t) p (inl (omega (arith, lt)))))
-      (range_before (r + 6 + v + t) t parameters (λ k le lt. new_range k (r + 6 + v + t + t) p (inl lt)) (range_differs (r + 6 + v + t + t) p))))))
+      (λ k le lt. ((λ e. omega (arith, e, lt)), ((λ e. omega (arith, e, lt)), new_besides k (inl (omega (arith, lt)))))) (
+        ((λ e. omega (arith, e)), new_besides r (inl (omega (arith)))),
+        (
+          new_besides (r + 1) (inl (omega (arith))),
+          range_before (r + 2) 4 (durations ++ parameters)
+              (λ k le lt. new_both k durations parameters (new_range k (r + 6 + v + t) t (inl (omega (arith, lt)))) (new_range k (r + 6 + v + t + t) p (inl (omega (arith, lt)))))
+              (range_before (r + 6 + v + t) t parameters (λ k le lt. new_range k (r + 6 + v + t + t) p (inl lt)) (range_differs (r + 6 + v + t + t) p)),
+        ),
+      )))
 
 pub layout_differs : (M : Model) → Differ (layouts.slots_of (layout_of M))
 layout_differs M = all_differ (length (regions M)) (length M.variables) (length M.timers) (length (parameter_slots M))

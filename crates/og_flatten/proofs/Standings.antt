@@ -105,13 +105,25 @@ zeros = Cell (pos 0) ∷ Cell (pos 0) ∷ Cell (pos 0) ∷ Cell (pos 0) ∷ Cell
 zeros_stand : (M : Model) (s : State) → StandsFor M (layout_by 1 0 0 0) Between s zeros
 zeros_stand M s = (
   record { cells = Cell (pos 0); there = refl; holds = tt },
-  (record { cells = Cell (pos 0); there = refl; holds = refl },
-  (record { cells = Cell (pos 0); there = refl; holds = refl },
-  (record { cells = Cell (pos 0); there = refl; holds = tt },
-  (record { cells = Cell (pos 0); there = refl; holds = tt },
-  (record { cells = Cell (pos 0); there = refl; holds = tt },
-  (record { cells = Cell (pos 0); there = refl; holds = tt },
-  tt)))))),
+  (
+    record { cells = Cell (pos 0); there = refl; holds = refl },
+    (
+      record { cells = Cell (pos 0); there = refl; holds = refl },
+      (
+        record { cells = Cell (pos 0); there = refl; holds = tt },
+        (
+          record { cells = Cell (pos 0); there = refl; holds = tt },
+          (
+            record { cells = Cell (pos 0); there = refl; holds = tt },
+            (
+              record { cells = Cell (pos 0); there = refl; holds = tt },
+              tt,
+            ),
+          ),
+        ),
+      ),
+    ),
+  ),
 )
 
 first_are : (M : Model) → IsBasic M → first_slots M.types (code_of M) ≡ zeros

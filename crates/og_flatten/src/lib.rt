@@ -71,11 +71,7 @@ fn make_events(alloc: Global, model: &Model) -> Result<Items<Word>, NoMemory>
     Ok(events)
 }
 
-fn make_functions(
-    alloc: Global,
-    control: Control,
-    model: &Model,
-) -> Result<Items<FlatFn>, NoMemory>
+fn make_functions(alloc: Global, control: Control, model: &Model) -> Result<Items<FlatFn>, NoMemory>
     ensures made { IfOk result (λ functions. functions ≡ functions_of control model.now) }
     ensures few { IfOk result (λ functions. end_place model.now < 2 ^ 32) }
 {

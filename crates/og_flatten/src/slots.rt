@@ -97,11 +97,7 @@ fn put_control(alloc: Global, slots: &mut Items<SlotDef>) -> Result<(), NoMemory
 }
 
 /// The value of each variable.
-fn put_variables(
-    alloc: Global,
-    slots: &mut Items<SlotDef>,
-    model: &Model,
-) -> Result<(), NoMemory>
+fn put_variables(alloc: Global, slots: &mut Items<SlotDef>, model: &Model) -> Result<(), NoMemory>
     ensures { OnOk result (slots.new ≡ slots.old ++ slots_of (variable_fields model.now)) }
 {
     for variable in model.variables.as_slice() {
@@ -151,7 +147,12 @@ fn put_inputs_of(
 {
     if signal.incoming {
         let prefix = joined(alloc, b"i_", name_text(model, signal.name))?;
-        put_parameters(alloc, slots, prefix.bytes.as_slice(), signal.sorts.as_slice())?;
+        put_parameters(
+            alloc,
+            slots,
+            prefix.bytes.as_slice(),
+            signal.sorts.as_slice(),
+        )?;
     }
     Ok(())
 }
@@ -162,7 +163,12 @@ fn put_outputs(alloc: Global, slots: &mut Items<SlotDef>, model: &Model) -> Resu
 {
     for signal in model.signals.as_slice() {
         let prefix = joined(alloc, b"o_", name_text(model, signal.name))?;
-        put_parameters(alloc, slots, prefix.bytes.as_slice(), signal.sorts.as_slice())?;
+        put_parameters(
+            alloc,
+            slots,
+            prefix.bytes.as_slice(),
+            signal.sorts.as_slice(),
+        )?;
     }
     Ok(())
 }

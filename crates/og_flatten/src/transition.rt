@@ -27,11 +27,7 @@ pub fn transition_function(
     })
 }
 
-fn transition_code(
-    alloc: Global,
-    control: Control,
-    model: &Model,
-) -> Result<Items<Instr>, NoMemory>
+fn transition_code(alloc: Global, control: Control, model: &Model) -> Result<Items<Instr>, NoMemory>
     ensures made { IfOk result (λ code. code ≡ transition_code_of control model.now) }
     ensures few { IfOk result (λ code. end_place model.now < 2 ^ 32) }
 {
@@ -73,12 +69,7 @@ fn entering_of(entering: usize, number: usize) -> Result<usize, NoMemory>
 }
 
 /// The table that leads from the number of a body to its code.
-fn choice(
-    alloc: Global,
-    control: Control,
-    bodies: &[Body],
-    end: u32,
-) -> Result<Instr, NoMemory>
+fn choice(alloc: Global, control: Control, bodies: &[Body], end: u32) -> Result<Instr, NoMemory>
     ensures { IfOk result (λ made. made ≡ instr.Table (reading control.chosen) (body_cases 0 1 bodies.now) end) }
 {
     let cases = choice_cases(alloc, bodies)?;

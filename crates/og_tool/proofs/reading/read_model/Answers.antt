@@ -38,8 +38,8 @@ pub refused-requires-clause-named : goal.refused-requires-clause-named
 refused-requires-clause-named g c =
     let P : List ModelFile → Type 0 = λ fs. AreRead (g.S.Store.holds c.args.store.now) (texts c.args.files.now) (sources fs) in
     let stands = (stands_among (g.S.Store.holds c.args.store.now) (texts c.args.files.now) (sources c.as_slice-read.result.now) c.in_ok-violation-in-Err.violation
-        (subst P (sym c.as_slice-read.ensures.value) c.in_ok-contents.ensures.read)
-        (first_read (sources c.as_slice-read.result.now) _ c.in_ok-violation-in-Err.violation c.in_ok-violation-in-Err.ensures.broken c.in-Err.ensures.refused)).0 in
+    (subst P (sym c.as_slice-read.ensures.value) c.in_ok-contents.ensures.read)
+    (first_read (sources c.as_slice-read.result.now) _ c.in_ok-violation-in-Err.violation c.in_ok-violation-in-Err.ensures.broken c.in-Err.ensures.refused)).0 in
     let same = length-map c.args.files.now string_bytes in
     omega (arith, stands, same)
 
@@ -47,8 +47,8 @@ pub refused-requires-clause-stands : goal.refused-requires-clause-stands
 refused-requires-clause-stands g c =
     let P : List ModelFile → Type 0 = λ fs. AreRead (g.S.Store.holds c.args.store.now) (texts c.args.files.now) (sources fs) in
     let stands = (stands_among (g.S.Store.holds c.args.store.now) (texts c.args.files.now) (sources c.as_slice-read.result.now) c.in_ok-violation-in-Err.violation
-        (subst P (sym c.as_slice-read.ensures.value) c.in_ok-contents.ensures.read)
-        (first_read (sources c.as_slice-read.result.now) _ c.in_ok-violation-in-Err.violation c.in_ok-violation-in-Err.ensures.broken c.in-Err.ensures.refused)).1 in
+    (subst P (sym c.as_slice-read.ensures.value) c.in_ok-contents.ensures.read)
+    (first_read (sources c.as_slice-read.result.now) _ c.in_ok-violation-in-Err.violation c.in_ok-violation-in-Err.ensures.broken c.in-Err.ensures.refused)).1 in
     let same = length-map c.as_slice-read.result.now source in
     omega (arith, stands, same)
 
