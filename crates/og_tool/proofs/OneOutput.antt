@@ -16,12 +16,10 @@ use Rattle.og_tool.specs.declared.status.Status.{Status}
 use Rattle.og_tool.specs.declared.status.Status.TheVariants.{Refused}
 use Rattle.og_tool.specs.Answers.{limit, HasRead, AreRead, HasModel, HasProgram, IsReport, accepted_line, IsAcceptance, IsBadLine, as_word, IsTrace, IsOutputFor, IsLargeAmong, IsTooLargeFor, status_of}
 use Rattle.og_judge.specs.Judging.{SourceFile, AreTextOf, AreAccepted, IsFirstViolation, HaveModel}
+use Rattle.og_lexer.specs.declared.Language.{Language}
 use Rattle.og_tool.proofs.ReadingParts.{one_language}
 use Rattle.og_front.specs.declared.syntax.SystemText.{SystemText}
-use Rattle.og_lexer.specs.declared.Language.{Language}
-use Rattle.og_report.specs.declared.Report.{Report}
-use Rattle.og_report.specs.Line.{report_line}
-use Rattle.og_report.specs.Report.{IsReportOf}
+use Rattle.og_front.specs.Files.{report_line}
 use Rattle.og_names.specs.Folding.{folded}
 use Rattle.og_base.specs.declared.Violation.{Violation}
 use Rattle.og_tool.specs.Programs.{IsTextOfProgram, IsBadFor, bad_program_line}
@@ -33,7 +31,6 @@ use Rattle.og_names.proofs.Truths.{same_value as same_some}
 pub record Laws : Type 0 where
   pub never_both : (files : List SourceFile) (v : Violation) → AreAccepted files → IsFirstViolation files v → ⊥
   pub one_violation : (files : List SourceFile) (v w : Violation) → IsFirstViolation files v → IsFirstViolation files w → v ≡ w
-  pub one_report : (language : Language) (bytes : List ℕ) (v : Violation) (a b : Report) → IsReportOf language bytes v a → IsReportOf language bytes v b → a ≡ b
   pub one_model : (files : List SourceFile) (M N : Model) → HaveModel files M → HaveModel files N → M ≡ N
   pub one_tree : (files : List SourceFile) (a b : SystemText) → AreTextOf a 0 files → AreTextOf b 0 files → a ≡ b
   pub programs : OneProgram
@@ -89,21 +86,12 @@ never_reported laws files names line M status x report =
     let P : List SourceFile → Type 0 = λ fs. IsFirstViolation fs report.violation in
     laws.never_both x.files report.violation x.have.accepted (subst P (same_files files names report.files x.files report.read x.read) report.first)
 
-same_lines : (a b : Report) (name other : List ℕ) (line more : List ℕ) → a ≡ b → name ≡ other → line ≡ report_line a name → more ≡ report_line b other → line ≡ more
-same_lines a b name other line more same word is are = is ∙ ap (λ r. report_line r name) same ∙ ap (report_line b) word ∙ sym are
-
 pub same_report : Laws → (files : Files) (names : List (List ℕ)) (line more : List ℕ) (status other : Status) → IsReport (Some files) names status line → IsReport (Some files) names other more → (status ≡ other) × (line ≡ more)
 same_report laws files names line more status other x y =
-    let sources : y.files ≡ x.files = same_files files names y.files x.files y.read x.read in
     let P : List SourceFile → Type 0 = λ fs. IsFirstViolation fs y.violation in
-    let same : x.violation ≡ y.violation = laws.one_violation x.files x.violation y.violation x.first (subst P sources y.first) in
+    let same : x.violation ≡ y.violation = laws.one_violation x.files x.violation y.violation x.first (subst P (same_files files names y.files x.files y.read x.read) y.first) in
     let word : Some x.name ≡ Some y.name = sym x.named ∙ ap (λ (v : Violation). slice_get names v.place.file) same ∙ y.named in
-    let source : Some x.file ≡ Some y.file = sym x.stands ∙ ap (λ (v : Violation). slice_get x.files v.place.file) same ∙ ap (λ (fs : List SourceFile). slice_get fs y.violation.place.file) (sym sources) ∙ y.stands in
-    let file : x.file ≡ y.file = same_some x.file y.file source in
-    let Q : Violation → Type 0 = λ v. IsReportOf x.file.language x.file.bytes v x.report in
-    let R : SourceFile → Type 0 = λ f. IsReportOf f.language f.bytes y.violation x.report in
-    let report = laws.one_report y.file.language y.file.bytes y.violation x.report y.report (subst R file (subst Q same x.reports)) y.reports in
-    (x.refused ∙ sym y.refused, same_lines x.report y.report x.name y.name line more report (same_some x.name y.name word) x.is y.is)
+    (x.refused ∙ sym y.refused, x.is ∙ ap (λ name. report_line name x.violation) (same_some x.name y.name word) ∙ ap (report_line y.name) same ∙ sym y.is)
 
 same_acceptance : Laws → (files : Files) (names : List (List ℕ)) (line more : List ℕ) (status other : Status) → IsAcceptance (Some files) names status line → IsAcceptance (Some files) names other more → (status ≡ other) × (line ≡ more)
 same_acceptance laws files names line more status other x y =

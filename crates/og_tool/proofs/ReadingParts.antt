@@ -132,31 +132,26 @@ are_few told words files read are =
 pub ready : (told : Option Files) (names : List (List ℕ)) (files : List SourceFile) (model : Model) → AreRead told names files → IsJudged files model → IsReady told names model
 ready told names files model read judged = record { has_model = record { files = files; read = read; have = judged.have }; can = judged.can }
 
--- a violation stands in one of the files, and so under one of the names
-pub stands_among : (told : Option Files) (names : List (List ℕ)) (files : List SourceFile) (v : Violation) → AreRead told names files
-    → Refuses files (Broken v) → (v.place.file < length names) × (v.place.file < length files)
-stands_among told names files v read first =
-    let many = as_many told names files read in
-    let less = stands_in_a_file files v first in
-    (omega (arith, many, less), less)
+-- the files and their first violation
+pub record HasFirst (told : Option Files) (names : List (List ℕ)) (v : Violation) : Type 0 where
+  pub files : List SourceFile
+  pub read : AreRead told names files
+  pub first : IsFirstViolation files v
 
-pub report_told : (told : Option Files) (names : List (List ℕ)) (files : List SourceFile) (v : Violation) (judgement : Judgement) → AreRead told names files
-    → Refuses files (Broken v) → IsRefusalOf names files v judgement → TellsModel told names judgement
-report_told told names files v (judged.Accepted model) read first refusal = absurd refusal.is
-report_told told names files v (judged.Refused text) read first refusal = record {
-  files = files;
-  read = read;
-  violation = v;
-  first = first;
-  name = refusal.name;
-  named = refusal.named;
-  file = refusal.file;
-  stands = refusal.stands;
-  report = refusal.report;
-  reports = refusal.reports;
-  is = refusal.is;
-  refused = refl;
-}
+pub first_read : (told : Option Files) (names : List (List ℕ)) (files : List SourceFile) (v : Violation) → AreRead told names files → Refuses files (Broken v) → HasFirst told names v
+first_read told names files v read first = record { files = files; read = read; first = first }
+
+pub stands_among : (told : Option Files) (words : List (String Global)) (v : Violation) → HasFirst told (texts words) v → v.place.file < length words
+stands_among told words v has =
+    let many = as_many told (texts words) has.files has.read in
+    let same = length-map words string_bytes in
+    let less = stands_in_a_file has.files v has.first in
+    omega (arith, many, same, less)
+
+pub report_told : (told : Option Files) (names : List (List ℕ)) (v : Violation) (judgement : Judgement) → HasFirst told names v → IsRefusalOf names v judgement → TellsModel told names judgement
+report_told told names v (judged.Accepted model) has refusal = absurd refusal.2
+report_told told names v (judged.Refused text) has refusal =
+    record { files = has.files; read = has.read; violation = v; first = has.first; name = refusal.0; named = refusal.1; is = refusal.2; refused = refl }
 
 -- ---- the name of the process
 

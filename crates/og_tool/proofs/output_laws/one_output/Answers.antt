@@ -5,7 +5,6 @@ pub returns-clause-run : goal.returns-clause-run
 returns-clause-run c = one_run (record {
   never_both = c.one_judgement.ensures.apart;
   one_violation = c.one_judgement.ensures.one;
-  one_report = c.one_report.ensures;
   one_model = c.one_judgement.ensures.model;
   one_tree = c.one_judgement.ensures.tree;
   programs = c.one_program.ensures;
@@ -20,7 +19,6 @@ pub returns-clause-check : goal.returns-clause-check
 returns-clause-check c = one_check (record {
   never_both = c.one_judgement.ensures.apart;
   one_violation = c.one_judgement.ensures.one;
-  one_report = c.one_report.ensures;
   one_model = c.one_judgement.ensures.model;
   one_tree = c.one_judgement.ensures.tree;
   programs = c.one_program.ensures;
@@ -35,7 +33,6 @@ pub returns-clause-compile : goal.returns-clause-compile
 returns-clause-compile c = one_compilation (record {
   never_both = c.one_judgement.ensures.apart;
   one_violation = c.one_judgement.ensures.one;
-  one_report = c.one_report.ensures;
   one_model = c.one_judgement.ensures.model;
   one_tree = c.one_judgement.ensures.tree;
   programs = c.one_program.ensures;
@@ -50,7 +47,6 @@ pub returns-clause-refusal : goal.returns-clause-refusal
 returns-clause-refusal c = one_refusal (record {
   never_both = c.one_judgement.ensures.apart;
   one_violation = c.one_judgement.ensures.one;
-  one_report = c.one_report.ensures;
   one_model = c.one_judgement.ensures.model;
   one_tree = c.one_judgement.ensures.tree;
   programs = c.one_program.ensures;
@@ -65,7 +61,6 @@ pub returns-clause-too_large : goal.returns-clause-too_large
 returns-clause-too_large c = never_too_large (record {
   never_both = c.one_judgement.ensures.apart;
   one_violation = c.one_judgement.ensures.one;
-  one_report = c.one_report.ensures;
   one_model = c.one_judgement.ensures.model;
   one_tree = c.one_judgement.ensures.tree;
   programs = c.one_program.ensures;

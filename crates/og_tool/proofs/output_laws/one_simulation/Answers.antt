@@ -7,7 +7,6 @@ returns c =
     (record {
       never_both = c.one_judgement.ensures.apart;
       one_violation = c.one_judgement.ensures.one;
-      one_report = c.one_report.ensures;
       one_model = c.one_judgement.ensures.model;
       one_tree = c.one_judgement.ensures.tree;
       programs = c.one_program.ensures;
