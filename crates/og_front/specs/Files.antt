@@ -1,7 +1,6 @@
 -- What the rules say of a model file as bytes. A file that violates no rule is accepted; any other one has a first violation:
 -- of the tokens (Z.101 section 6.1), of the grammar, of names, of states or of limits, each where what comes before is kept.
-use Rattle.std.specs.Prelude.{◌≡◌, ◌⊎◌, ℕ, List, [], ◌∷◌, ◌++◌, Some, None, codes, decimal}
-use Rattle.og_base.specs.declared.Rule.{Rule}
+use Rattle.std.specs.Prelude.{◌≡◌, ◌⊎◌, ℕ, List, ◌∷◌, Some, None}
 use Rattle.og_base.specs.declared.Rule.TheVariants as rule
 use Rattle.og_base.specs.declared.Violation.{Violation}
 use Rattle.og_lexer.specs.declared.Spanned.{Spanned}
@@ -49,51 +48,3 @@ FirstViolation file bytes v = FirstLexical file bytes v ⊎ (BreaksGrammar file 
 -- the bytes have a first violation
 abbrev pub IsRefused : ℕ → List ℕ → Type 0
 IsRefused file bytes = (v : Violation) × FirstViolation file bytes v
-
--- the name of a rule, as users see it
-abbrev pub rule_text : Rule → List ℕ
-rule_text rule.L1 = codes "L1"
-rule_text rule.L2 = codes "L2"
-rule_text rule.L3 = codes "L3"
-rule_text rule.L4 = codes "L4"
-rule_text rule.S1 = codes "S1"
-rule_text rule.S2 = codes "S2"
-rule_text rule.F1 = codes "F1"
-rule_text rule.N1 = codes "N1"
-rule_text rule.N2 = codes "N2"
-rule_text rule.N3 = codes "N3"
-rule_text rule.N4 = codes "N4"
-rule_text rule.N5 = codes "N5"
-rule_text rule.N6 = codes "N6"
-rule_text rule.N7 = codes "N7"
-rule_text rule.T1 = codes "T1"
-rule_text rule.T2 = codes "T2"
-rule_text rule.T3 = codes "T3"
-rule_text rule.T4 = codes "T4"
-rule_text rule.T6 = codes "T6"
-rule_text rule.T7 = codes "T7"
-rule_text rule.G1 = codes "G1"
-rule_text rule.G2 = codes "G2"
-rule_text rule.G3 = codes "G3"
-rule_text rule.G4 = codes "G4"
-rule_text rule.G5 = codes "G5"
-rule_text rule.A1 = codes "A1"
-rule_text rule.A2 = codes "A2"
-rule_text rule.A3 = codes "A3"
-rule_text rule.A4 = codes "A4"
-rule_text rule.A5 = codes "A5"
-rule_text rule.A6 = codes "A6"
-rule_text rule.A7 = codes "A7"
-rule_text rule.A8 = codes "A8"
-rule_text rule.A9 = codes "A9"
-rule_text rule.A10 = codes "A10"
-rule_text rule.A11 = codes "A11"
-rule_text rule.A12 = codes "A12"
-rule_text rule.M1 = codes "M1"
-rule_text rule.M2 = codes "M2"
-rule_text rule.M3 = codes "M3"
-rule_text rule.M4 = codes "M4"
-
--- refused RULE FILE:LINE:COLUMN
-abbrev pub report_line : List ℕ → Violation → List ℕ
-report_line file v = codes "refused " ++ rule_text v.rule ++ codes " " ++ file ++ codes ":" ++ decimal v.place.line ++ codes ":" ++ decimal v.place.column ++ 10 ∷ []

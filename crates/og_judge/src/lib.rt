@@ -3,14 +3,12 @@
 
 mod judging;
 mod laws;
-mod report;
 mod texts;
 mod trees;
 
 pub use judging::judge;
 pub use laws::one_judgement;
 use og_lexer::Language;
-pub use report::report_line;
 
 /// A model file: its language, and its bytes.
 #[derive(Drop)]

@@ -19,7 +19,9 @@ use Rattle.og_judge.specs.Judging.{SourceFile, AreTextOf, AreAccepted, IsFirstVi
 use Rattle.og_lexer.specs.declared.Language.{Language}
 use Rattle.og_tool.proofs.ReadingParts.{one_language}
 use Rattle.og_front.specs.declared.syntax.SystemText.{SystemText}
-use Rattle.og_front.specs.Files.{report_line}
+use Rattle.og_report.specs.declared.Report.{Report}
+use Rattle.og_report.specs.Report.{IsReportOf}
+use Rattle.og_report.specs.Line.{report_line}
 use Rattle.og_names.specs.Folding.{folded}
 use Rattle.og_base.specs.declared.Violation.{Violation}
 use Rattle.og_tool.specs.Programs.{IsTextOfProgram, IsBadFor, bad_program_line}
@@ -33,6 +35,7 @@ pub record Laws : Type 0 where
   pub one_violation : (files : List SourceFile) (v w : Violation) → IsFirstViolation files v → IsFirstViolation files w → v ≡ w
   pub one_model : (files : List SourceFile) (M N : Model) → HaveModel files M → HaveModel files N → M ≡ N
   pub one_tree : (files : List SourceFile) (a b : SystemText) → AreTextOf a 0 files → AreTextOf b 0 files → a ≡ b
+  pub one_report : (language : Language) (bytes : List ℕ) (v : Violation) (a b : Report) → IsReportOf language bytes v a → IsReportOf language bytes v b → a ≡ b
   pub programs : OneProgram
   pub not_deep : NotDeep
   pub not_bad : NotBad
@@ -86,12 +89,24 @@ never_reported laws files names line M status x report =
     let P : List SourceFile → Type 0 = λ fs. IsFirstViolation fs report.violation in
     laws.never_both x.files report.violation x.have.accepted (subst P (same_files files names report.files x.files report.read x.read) report.first)
 
+-- the report of one violation in one list of files
+one_report_of : Laws → (files others : List SourceFile) (v w : Violation) (file other : SourceFile) (report more : Report) → files ≡ others → v ≡ w
+    → slice_get files v.place.file ≡ Some file → slice_get others w.place.file ≡ Some other → IsReportOf file.language file.bytes v report → IsReportOf other.language other.bytes w more → report ≡ more
+one_report_of laws files others v w file other report more same_list same_violation at other_at x y =
+    let there : Some file ≡ Some other =
+    sym at ∙ ap (λ (fs : List SourceFile). slice_get fs v.place.file) same_list ∙ ap (λ (u : Violation). slice_get others u.place.file) same_violation ∙ other_at in
+    let P : SourceFile → Type 0 = λ f. IsReportOf f.language f.bytes v report in
+    let Q : Violation → Type 0 = λ u. IsReportOf other.language other.bytes u report in
+    laws.one_report other.language other.bytes w report more (subst Q same_violation (subst P (same_some file other there) x)) y
+
 pub same_report : Laws → (files : Files) (names : List (List ℕ)) (line more : List ℕ) (status other : Status) → IsReport (Some files) names status line → IsReport (Some files) names other more → (status ≡ other) × (line ≡ more)
 same_report laws files names line more status other x y =
     let P : List SourceFile → Type 0 = λ fs. IsFirstViolation fs y.violation in
-    let same : x.violation ≡ y.violation = laws.one_violation x.files x.violation y.violation x.first (subst P (same_files files names y.files x.files y.read x.read) y.first) in
+    let list : x.files ≡ y.files = same_files files names x.files y.files x.read y.read in
+    let same : x.violation ≡ y.violation = laws.one_violation x.files x.violation y.violation x.first (subst P (sym list) y.first) in
     let word : Some x.name ≡ Some y.name = sym x.named ∙ ap (λ (v : Violation). slice_get names v.place.file) same ∙ y.named in
-    (x.refused ∙ sym y.refused, x.is ∙ ap (λ name. report_line name x.violation) (same_some x.name y.name word) ∙ ap (report_line y.name) same ∙ sym y.is)
+    let report : x.report ≡ y.report = one_report_of laws x.files y.files x.violation y.violation x.file y.file x.report y.report list same x.stands y.stands x.reports y.reports in
+    (x.refused ∙ sym y.refused, x.is ∙ ap (λ name. report_line x.report name) (same_some x.name y.name word) ∙ ap (λ (r : Report). report_line r y.name) report ∙ sym y.is)
 
 same_acceptance : Laws → (files : Files) (names : List (List ℕ)) (line more : List ℕ) (status other : Status) → IsAcceptance (Some files) names status line → IsAcceptance (Some files) names other more → (status ≡ other) × (line ≡ more)
 same_acceptance laws files names line more status other x y =

@@ -1,5 +1,5 @@
 -- What is read of the model files, file by file, and what the judgement of a single file says of the list of it.
-use Rattle.std.proofs.Common.{◌≡◌, ◌∙◌, ℕ, suc, true, ◌+◌, ◌<◌, ◌≤◌, List, [], ◌∷◌, ◌++◌, length, take, drop, get_or, Option, Global, sym, ap, subst, refl, inl, inr, arith, string_bytes}
+use Rattle.std.proofs.Common.{◌≡◌, ◌∙◌, ℕ, zero, suc, true, ◌+◌, ◌<◌, ◌≤◌, List, [], ◌∷◌, ◌++◌, length, map, take, drop, get_or, slice_get, Option, Some, Global, sym, ap, subst, refl, inl, inr, arith, string_bytes}
 use Rattle.std.specs.Prelude.{unwrap_or}
 use Rattle.std.proofs.lemmas.List.{take-append-drop, map-append}
 use Rattle.std.proofs.Math.Seq.{drop-cons}
@@ -141,6 +141,7 @@ pub record HasFirst (told : Option Files) (names : List (List ℕ)) (v : Violati
 pub first_read : (told : Option Files) (names : List (List ℕ)) (files : List SourceFile) (v : Violation) → AreRead told names files → Refuses files (Broken v) → HasFirst told names v
 first_read told names files v read first = record { files = files; read = read; first = first }
 
+-- it stands in one of them, and so among the names
 pub stands_among : (told : Option Files) (words : List (String Global)) (v : Violation) → HasFirst told (texts words) v → v.place.file < length words
 stands_among told words v has =
     let many = as_many told (texts words) has.files has.read in
@@ -148,10 +149,44 @@ stands_among told words v has =
     let less = stands_in_a_file has.files v has.first in
     omega (arith, many, same, less)
 
-pub report_told : (told : Option Files) (names : List (List ℕ)) (v : Violation) (judgement : Judgement) → HasFirst told names v → IsRefusalOf names v judgement → TellsModel told names judgement
-report_told told names v (judged.Accepted model) has refusal = absurd refusal.2
-report_told told names v (judged.Refused text) has refusal =
-    record { files = has.files; read = has.read; violation = v; first = has.first; name = refusal.0; named = refusal.1; is = refusal.2; refused = refl }
+pub stands_in_a_source : (files : List ModelFile) (v : Violation) → Refuses (sources files) (Broken v) → v.place.file < length files
+stands_in_a_source files v first =
+    let same = length-map files source in
+    let less = stands_in_a_file (sources files) v first in
+    omega (arith, same, less)
+
+pub report_told : (told : Option Files) (names : List (List ℕ)) (files : List SourceFile) (v : Violation) (judgement : Judgement) → AreRead told names files → IsFirstViolation files v → IsRefusalOf names files v judgement
+    → TellsModel told names judgement
+report_told told names files v (judged.Accepted model) read first refusal = absurd refusal.is
+report_told told names files v (judged.Refused text) read first refusal =
+    record {
+      files = files;
+      read = read;
+      violation = v;
+      first = first;
+      name = refusal.name;
+      named = refusal.named;
+      file = refusal.file;
+      stands = refusal.stands;
+      report = refusal.report;
+      reports = refusal.reports;
+      is = refusal.is;
+      refused = refl;
+    }
+
+-- ---- the file of a violation
+
+-- what stands at a place, and what is made of it
+pub made_at : {A B : Type 0} (f : A → B) (xs : List A) (i : ℕ) (d : A) → i < length xs → slice_get (map f xs) i ≡ Some (f (get_or xs i d))
+made_at f [] i d less = absurd (omega (arith, less))
+made_at f (x ∷ xs) zero d less = refl
+made_at f (x ∷ xs) (suc i) d less = let l : i < length xs = omega (arith, less) in made_at f xs i d l
+
+-- what holds of each file holds of the one at a place
+pub holds_at : (P : SourceFile → Type 0) (files : List ModelFile) (i : ℕ) (d : ModelFile) → i < length files → AllByRecursion P (sources files) → P (source (get_or files i d))
+holds_at P [] i d less all = absurd (omega (arith, less))
+holds_at P (f ∷ files) zero d less all = all.0
+holds_at P (f ∷ files) (suc i) d less all = let l : i < length files = omega (arith, less) in holds_at P files i d l all.1
 
 -- ---- the name of the process
 

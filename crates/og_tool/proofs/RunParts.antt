@@ -1,8 +1,6 @@
 -- What the parts of the top call give, put together.
-use Rattle.std.proofs.Common.{◌≡◌, ℕ, List, ◌∷◌, Option, Result, Ok, Err, sym, ◌∙◌, subst, inl, inr, refl}
-use Rattle.std.specs.Prelude.{IfOk}
+use Rattle.std.proofs.Common.{◌≡◌, ℕ, List, Option, sym, subst, inl, inr, refl}
 use Rattle.og_base.specs.Store.{Files}
-use Rattle.og_model.specs.declared.Model.{Model}
 use Rattle.og_model.specs.Forms.{UsesBasicStatesOnly}
 use Rattle.og_trace.specs.declared.Outcome.{Outcome}
 use Rattle.og_trace.specs.declared.Outcome.TheVariants as outcome

@@ -11,8 +11,11 @@ use Rattle.og_tool.specs.declared.reading.Judgement.TheVariants as judged
 use Rattle.og_tool.specs.declared.status.Status.{Status}
 use Rattle.og_tool.specs.declared.status.Status.TheVariants.{Done, Refused, Usage, ReadFault, WriteFault, NoMemory, BadFile, Past, Faulted, Stuck, TooLarge}
 use Rattle.og_tool.specs.Answers.{HasModel, IsReport, IsOutputFor, FailedFor, IsTooLargeFor}
-use Rattle.og_front.specs.Files.{report_line}
+use Rattle.og_judge.specs.Judging.{SourceFile}
 use Rattle.og_judge.specs.Ready.{CanRun}
+use Rattle.og_report.specs.declared.Report.{Report}
+use Rattle.og_report.specs.Report.{IsReportOf}
+use Rattle.og_report.specs.Line.{report_line}
 use Rattle.og_words.specs.Words.{Command}
 
 -- ---- reading a model
@@ -30,9 +33,15 @@ abbrev pub IsRefusal : List ℕ → Judgement → Type 0
 IsRefusal line (judged.Accepted model) = ⊥
 IsRefusal line (judged.Refused text) = text.items ≡ line
 
--- the line of the violation, with the name of the file in which it is
-abbrev pub IsRefusalOf : List (List ℕ) → Violation → Judgement → Type 0
-IsRefusalOf names v judgement = (name : List ℕ) × (slice_get names v.place.file ≡ Some name) × IsRefusal (report_line name v) judgement
+-- the line that reports the violation, with the name of the file in which it is
+pub record IsRefusalOf (names : List (List ℕ)) (files : List SourceFile) (v : Violation) (judgement : Judgement) : Type 0 where
+  pub name : List ℕ
+  pub named : slice_get names v.place.file ≡ Some name
+  pub file : SourceFile
+  pub stands : slice_get files v.place.file ≡ Some file
+  pub report : Report
+  pub reports : IsReportOf file.language file.bytes v report
+  pub is : IsRefusal (report_line report name) judgement
 
 -- ---- carrying out a command
 

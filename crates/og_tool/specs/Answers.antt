@@ -17,7 +17,9 @@ use Rattle.og_tool.specs.declared.program.BadProgram.{BadProgram}
 use Rattle.og_tool.specs.declared.status.Status.{Status}
 use Rattle.og_tool.specs.declared.status.Status.TheVariants.{Done, Refused, BadFile, Past, Faulted, Stuck}
 use Rattle.og_tool.specs.Compiled.{IsCompiled}
-use Rattle.og_front.specs.Files.{report_line}
+use Rattle.og_report.specs.declared.Report.{Report}
+use Rattle.og_report.specs.Report.{IsReportOf}
+use Rattle.og_report.specs.Line.{report_line}
 use Rattle.og_names.specs.declared.Word.{Word}
 use Rattle.og_names.specs.Folding.{folded}
 use Rattle.og_judge.specs.Judging.{SourceFile, IsFirstViolation, HaveModel}
@@ -62,7 +64,8 @@ pub record HasProgram (told : Option Files) (file : List ℕ) (model : Model) (p
 
 -- ---- what a command calls for
 
--- the line that names the first violation in the model files of these names, with the name of the file in which it is
+-- the line that reports the first violation in the model files of these names, with the name of the file in which it is and the
+-- box of its place in that file
 pub record IsReport (told : Option Files) (names : List (List ℕ)) (status : Status) (line : List ℕ) : Type 0 where
   pub files : List SourceFile
   pub read : AreRead told names files
@@ -70,7 +73,11 @@ pub record IsReport (told : Option Files) (names : List (List ℕ)) (status : St
   pub first : IsFirstViolation files violation
   pub name : List ℕ
   pub named : slice_get names violation.place.file ≡ Some name
-  pub is : line ≡ report_line name violation
+  pub file : SourceFile
+  pub stands : slice_get files violation.place.file ≡ Some file
+  pub report : Report
+  pub reports : IsReportOf file.language file.bytes violation report
+  pub is : line ≡ report_line report name
   pub refused : status ≡ Refused
 
 -- accepted NAME

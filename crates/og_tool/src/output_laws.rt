@@ -20,6 +20,7 @@ use og_csubset::{
 };
 use og_front::models_are_well_formed;
 use og_judge::one_judgement;
+use og_report::one_report;
 
 /// Over a store that tells its files, a check and a run call for one text with one status, and the C of a model for one status; a
 /// simulation calls for the line of a violation where there is one. Nothing is called for where a file has too many bytes.
@@ -38,6 +39,7 @@ pub fn one_output()
         IsOutputFor (Some files) command status text → IsTooLargeFor (Some files) command → ⊥ }
 {
     one_judgement();
+    one_report();
     one_program();
     one_answer();
     one_deep_place();
@@ -58,6 +60,7 @@ pub fn one_simulation()
         status ≢ Status.Past → other ≢ Status.Past → (status ≡ other) × (text ≡ more) }
 {
     one_judgement();
+    one_report();
     one_program();
     one_answer();
     one_deep_place();

@@ -1,17 +1,18 @@
 //! Model files that are read and judged.
 ghost use Rattle.std.specs.Prelude.{◌≡◌, ℕ, ◌≤◌, [], ◌∷◌, ◌++◌, ◌<◌, List, length, IfOk, IfErr, OnOk, IsErrOf};
 ghost use Rattle.std.specs.List.{AllByRecursion};
-ghost use Rattle.og_judge.specs.Judging.{sources};
+ghost use Rattle.og_judge.specs.Judging.{AreShort, sources};
 ghost use Rattle.og_tool.specs.Answering.{TellsModel, IsRefusalOf};
 ghost use Rattle.og_tool.specs.Answers.{limit, FailedAmong, IsLargeAmong, AreRead, IsNamedAs};
 ghost use Rattle.og_words.specs.Asked.{texts};
 ghost use Rattle.og_words.specs.Words.{AreModelFiles, IsModelFile};
 
 use og_base::{ModelError, ReadError, Store, Violation, read_all};
-use og_judge::{ModelFile, judge, report_line};
+use og_judge::{ModelFile, judge};
 use og_lexer::Language;
 use og_model::Model;
 use og_names::NoMemory;
+use og_report::{report_line, report_of};
 use og_words::is_sdl_file;
 use std::alloc::Global;
 
@@ -39,11 +40,12 @@ pub fn read_model<S: Store>(
     ensures kept { S.holds store.new ≡ S.holds store.old }
 {
     let contents = read_files(alloc, store, files)?;
-    match judge(alloc, contents.as_slice()) {
+    let read = contents.as_slice();
+    match judge(alloc, read) {
         Ok(model) => Ok(Judgement::Accepted(model)),
         Err(error) => {
             let violation = violation_of(error)?;
-            Ok(refused(alloc, files, violation)?)
+            Ok(refused(alloc, files, read, violation)?)
         }
     }
 }
@@ -102,11 +104,22 @@ fn violation_of(error: ModelError) -> Result<Violation, NoMemory>
     }
 }
 
-/// The line that names the violation, and the file in which it is.
-fn refused(alloc: Global, files: &[String], violation: Violation) -> Result<Judgement, NoMemory>
-    requires { violation.place.file < length files.now }
-    ensures { IfOk result (IsRefusalOf (texts files.now) violation) }
+/// The line that reports the violation, with the name of the file in which it is.
+fn refused(
+    alloc: Global,
+    names: &[String],
+    files: &[ModelFile],
+    violation: Violation,
+) -> Result<Judgement, NoMemory>
+    requires named { violation.place.file < length names.now }
+    requires stands { violation.place.file < length files.now }
+    requires short { AreShort (sources files.now) }
+    ensures { IfOk result (IsRefusalOf (texts names.now) (sources files.now) violation) }
 {
-    let name = files[violation.place.file as usize].as_str();
-    Ok(Judgement::Refused(report_line(alloc, name.as_bytes(), violation)?))
+    let number = violation.place.file as usize;
+    let file = &files[number];
+    let report = report_of(alloc, file.language, file.bytes.as_slice(), violation)?;
+    let mut line = Vec::new(alloc);
+    report_line(&report, names[number].as_str().as_bytes(), &mut line)?;
+    Ok(Judgement::Refused(line))
 }

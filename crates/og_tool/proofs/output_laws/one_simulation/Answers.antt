@@ -9,6 +9,7 @@ returns c =
       one_violation = c.one_judgement.ensures.one;
       one_model = c.one_judgement.ensures.model;
       one_tree = c.one_judgement.ensures.tree;
+      one_report = c.one_report.ensures;
       programs = c.one_program.ensures;
       not_deep = c.one_answer.ensures.not_spelt_and_deep;
       not_bad = c.one_answer.ensures.not_spelt_and_bad;

@@ -1,9 +1,8 @@
-use Rattle.std.proofs.Common.{rules, arith, ◌∙◌, ℕ, ◌+◌, List, [], ◌∷◌, length, take, sym, ap, subst, string_bytes, length-append}
+use Rattle.std.proofs.Common.{rules, arith, ◌∙◌, sym, ap, subst, string_bytes}
 use Rattle.og_base.specs.Store.{Files, Holds, HoldsMore}
 use Rattle.std.specs.Prelude.{Option}
 use Rattle.og_judge.specs.Judging.{sources}
 use Rattle.og_tool.specs.Answers.{limit, HasRead, RoseAt}
-use Rattle.og_words.specs.Asked.{texts}
 use Rattle.og_words.proofs.CommandForms.{each_at}
 use Rattle.og_words.specs.Words.{IsModelFile}
 use Rattle.og_tool.proofs.ReadingParts.{next_read, failed_here, large_here}

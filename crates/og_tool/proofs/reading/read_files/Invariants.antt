@@ -1,4 +1,4 @@
-use Rattle.std.proofs.Common.{◌≡◌, ℕ, ◌≤◌, List, length, take}
+use Rattle.std.proofs.Common.{◌≡◌, ℕ, ◌≤◌, List, take}
 use Rattle.og_judge.specs.Judging.{sources}
 use Rattle.og_tool.specs.Answers.{AreRead}
 use Rattle.og_words.specs.Asked.{texts}
