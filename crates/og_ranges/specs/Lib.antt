@@ -1,3 +1,5 @@
 pub mod Intervals
+pub mod Ranges
 pub mod Laws
 pub mod Examples
+pub mod RangeExamples
