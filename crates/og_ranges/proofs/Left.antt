@@ -33,7 +33,7 @@ rest_holds a b x z r h less above below lower upper = record { not_below = low (
     high true e = let most = left_below b r less in omega (arith, ints)
     high false e = lower (omega (arith, ints, h.not_above))
 
-not_zero : (n : ℕ) → int_eq (pos n) (pos 0) ≡ false → 0 < n
+pub not_zero : (n : ℕ) → int_eq (pos n) (pos 0) ≡ false → 0 < n
 not_zero zero e = absurd (false≢true (sym e))
 not_zero (suc n) e = omega arith
 

@@ -5,3 +5,4 @@ pub mod Holding
 pub mod Reached
 pub mod Walking
 pub mod Valued
+pub mod Within

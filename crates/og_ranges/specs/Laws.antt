@@ -3,6 +3,7 @@
 use Rattle.std.specs.Prelude.{◌≡◌, true, List, [], ℤ, pos, ◌+ℤ◌, ◌-ℤ◌, ◌*ℤ◌, ◌≤ℤ◌, neg_ℤ, Option, Some, Result, Ok}
 use Rattle.og_types.specs.declared.TypeId.{TypeId}
 use Rattle.og_types.specs.declared.Value.{Value}
+use Rattle.og_types.specs.Table.{is_table}
 use Rattle.og_types.specs.Values.{is_in}
 use Rattle.og_model.specs.declared.VarId.{VarId}
 use Rattle.og_model.specs.declared.Expr.{Expr}
@@ -14,7 +15,7 @@ use Rattle.og_model.specs.Expressions.{Frame, Store, location_of, read, number_o
 use Rattle.og_model.specs.WellSorted.{Data, sort_of_variable, is_expression}
 use Rattle.og_ranges.specs.declared.Interval.{Interval}
 use Rattle.og_ranges.specs.Intervals.{LiesIn, IsInterval, negative_of}
-use Rattle.og_ranges.specs.Ranges.{range_of}
+use Rattle.og_ranges.specs.Ranges.{is_within_64_bits, range_of}
 
 -- of numbers of two intervals the operator gives, where it gives any, a number of the third
 abbrev pub GivesIn : BinaryOp → (Interval → Interval → Interval) → Type 0
@@ -57,3 +58,12 @@ abbrev pub ValuesLieInTheirIntervals : Type 0
 ValuesLieInTheirIntervals =
     (d : Data) (b : Frame) (s : Store) (e : Expr) (v : Value) → HoldsValues d b s → is_expression d e ≡ true → e.sort ≡ Int
     → (range_of d e).violations ≡ [] → eval b s e ≡ Ok v → LiesIn (number_of v) (range_of d e).interval
+
+-- there is a number in it, and it lies within 64 bits
+pub record IsWithin (a : Interval) : Type 0 where
+  pub ordered : a.lo ≤ℤ a.hi
+  pub within : is_within_64_bits a ≡ true
+
+-- the interval of an expression over a table of types is such a one
+abbrev pub NumbersHaveIntervals : Type 0
+NumbersHaveIntervals = (d : Data) (e : Expr) → is_table d.types ≡ true → IsWithin (range_of d e).interval
