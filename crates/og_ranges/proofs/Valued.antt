@@ -1,5 +1,5 @@
 -- A value of an integer expression lies in the expression's interval.
-use Rattle.std.proofs.Common.{◌≡◌, ℕ, zero, suc, Bool, true, false, cond, List, [], ◌∷◌, ◌++◌, length, map, slice_get, Option, Some, None, refl, sym, subst, ap, ◌∙◌, arith, ◌≤◌, ℤ, pos, negsuc, ◌≤ℤ◌, int_lt, int_le, Result, Ok, Err}
+use Rattle.std.proofs.Common.{◌≡◌, ℕ, zero, suc, Bool, true, false, cond, List, [], ◌∷◌, ◌++◌, length, map, slice_get, Option, Some, None, refl, subst, arith, ◌≤◌, ℤ, pos, ◌≤ℤ◌, int_lt, int_le, Result, Ok, Err}
 use Rattle.std.specs.Prelude.{◌&&◌, nat_le}
 use Rattle.std.proofs.lemmas.Int.{ints}
 use Rattle.std.proofs.lemmas.Bool.{leb-true}
@@ -12,9 +12,7 @@ use Rattle.og_types.specs.declared.Sort.{Sort}
 use Rattle.og_types.specs.declared.Sort.TheVariants as Sorts
 use Rattle.og_types.specs.declared.Value.{Value, Value-F, out-Value}
 use Rattle.og_types.specs.declared.Value.TheOpen as Open
-use Rattle.og_types.specs.Values.{in_within, in_sort}
 use Rattle.og_model.specs.declared.FaultKind.{FaultKind}
-use Rattle.og_model.specs.declared.UnaryOp.{UnaryOp}
 use Rattle.og_model.specs.declared.UnaryOp.TheVariants.{Minus, Not}
 use Rattle.og_model.specs.declared.BinaryOp.{BinaryOp}
 use Rattle.og_model.specs.declared.BinaryOp.TheVariants as Ops
@@ -26,11 +24,11 @@ use Rattle.og_model.specs.declared.Expr.{Expr, size-Expr}
 use Rattle.og_model.specs.declared.Node.{Node, Node-F, out-Node}
 use Rattle.og_model.specs.declared.Node.TheOpen as Nodes
 use Rattle.og_model.specs.Expressions.{Frame, Store, Walked, location_of, read, number_in, number_of, items_in, items_of, on_value, as_number, apply, unary, walk_by, eval_node, eval_within, eval, sort_at}
-use Rattle.og_model.specs.WellSorted.{Data, sort_from, sort_for, same_sort, sort_of_variable, type_of, hop_of, is_target, leads_to, can_be_equal, is_alternative, is_sequence_of_items, is_length, is_present, is_node, is_sorted_within, is_expression}
+use Rattle.og_model.specs.WellSorted.{Data, sort_from, same_sort, sort_of_variable, type_of, hop_of, leads_to, can_be_equal, is_alternative, is_sequence_of_items, is_length, is_present, is_node, is_sorted_within}
 use Rattle.og_ranges.specs.declared.Interval.{Interval}
 use Rattle.og_ranges.specs.Intervals.{LiesIn, sum_of, difference_of, negative_of, product_of, quotient_of, modulus_of, remainder_of}
-use Rattle.og_ranges.specs.Ranges.{Range, point, is_within_64_bits, tested, violates, divided, by_operator, by_sign, where_kept, bounds_of, lengths_of, sort_numbered, sort_of_target, range_of_node, range_within, range_of}
-use Rattle.og_ranges.specs.Laws.{GivesIn, GivesInWherePositive, HoldsValues, ValuesLieInTheirIntervals}
+use Rattle.og_ranges.specs.Ranges.{Range, point, is_within_64_bits, tested, violates, divided, where_kept, bounds_of, lengths_of, sort_numbered, range_of_node, range_within, range_of}
+use Rattle.og_ranges.specs.Laws.{HoldsValues, ValuesLieInTheirIntervals}
 use Rattle.og_ranges.proofs.Holding.{given, sums_hold, differences_hold, signs_hold, products_hold, quotients_hold, moduli_hold, rests_hold}
 use Rattle.og_ranges.proofs.Walking.{Fits, FitsSort, opened, nowhere, walk_fits}
 

@@ -1,6 +1,6 @@
 -- What stands at a place inside a value of a type is of the type that the selectors lead to.
-use Rattle.std.proofs.Common.{◌≡◌, ℕ, zero, suc, ◌<◌, ◌≤◌, Bool, true, false, cond, List, [], ◌∷◌, length, map, slice_get, Option, Some, None, refl, sym, subst, ap, ◌∙◌, arith, ℤ, pos, negsuc, Result, Ok, Err}
-use Rattle.std.specs.Prelude.{get_or, nat_lt, ◌&&◌, ◌||◌}
+use Rattle.std.proofs.Common.{◌≡◌, ℕ, zero, suc, ◌≤◌, Bool, true, false, cond, List, [], ◌∷◌, length, map, slice_get, Option, Some, None, refl, subst, arith, ℤ, pos, negsuc, Result, Ok, Err}
+use Rattle.std.specs.Prelude.{nat_lt, ◌||◌}
 use Rattle.std.specs.List.{list_all}
 use Rattle.std.specs.Option.{option_map, option_and_then}
 use Rattle.std.proofs.lemmas.Bool.{ltb-false, ltb-true}
@@ -12,7 +12,7 @@ use Rattle.og_types.specs.declared.Sort.{Sort}
 use Rattle.og_types.specs.declared.Sort.TheVariants as Sorts
 use Rattle.og_types.specs.declared.Value.{Value, Value-F, out-Value}
 use Rattle.og_types.specs.declared.Value.TheOpen as Open
-use Rattle.og_types.specs.Values.{in_parts, in_part, in_sort, in_within, is_in, no_value}
+use Rattle.og_types.specs.Values.{in_parts, in_part, in_sort, in_within, no_value}
 use Rattle.og_model.specs.declared.FaultKind.{FaultKind}
 use Rattle.og_model.specs.declared.FaultKind.TheVariants as Fault
 use Rattle.og_model.specs.declared.Target.{Target}
@@ -20,7 +20,7 @@ use Rattle.og_model.specs.declared.Select.{Select, Select-F, out-Select}
 use Rattle.og_model.specs.declared.Expr.{Expr}
 use Rattle.og_model.specs.declared.Node.{Node}
 use Rattle.og_model.specs.declared.Node.TheOpen as Nodes
-use Rattle.og_model.specs.Expressions.{Hop, ToPart, ToAlternative, ToItem, value_at, parts_in, items_in, chosen_in, alternative_in, parts_of, items_of, chosen_of, alternative_of, hop_from, hop_by, index_below, alternative_is, on_value, walk_from, Walked, Evaluates, number_of, sort_after, sort_at}
+use Rattle.og_model.specs.Expressions.{Hop, ToPart, ToAlternative, ToItem, value_at, parts_in, items_in, chosen_in, alternative_in, items_of, alternative_of, hop_from, hop_by, index_below, on_value, walk_from, Walked, Evaluates, number_of, sort_after, sort_at}
 use Rattle.og_model.specs.WellSorted.{hop_of}
 
 same_some : (a b : TypeId) → ◌≡◌ {A = Option TypeId} (Some a) (Some b) → a ≡ b
@@ -146,6 +146,7 @@ step_fits types worth (Nodes.At index) t id v h fits after is = go (worth index)
         below true lt e =
             subst (λ (g : Hop). Fits types id (hop_from v g)) (same_ok (ToItem n) h e)
             (record { depth = fits.depth; is = at_item types fits.depth 0 n t id (out-Value v) fits.is after lt })
+
     go : (r : Result Value FaultKind) → on_value r (λ i. index_below (length (items_of v)) (number_of i)) ≡ Ok h → Fits types id (hop_from v h)
     go (Err kind) e = cc
     go (Ok i) e = by_number (number_of i) e

@@ -1,6 +1,6 @@
 -- What holds of intervals: each has every value that its operator can give (`apply`, og_model/specs/Expressions), and those of
 -- sums, differences, products and signs have no number more than they need at either end. Of divisions that is not so.
-use Rattle.std.specs.Prelude.{◌≡◌, true, List, [], ℤ, pos, ◌+ℤ◌, ◌-ℤ◌, ◌*ℤ◌, ◌≤ℤ◌, neg_ℤ, Option, Some, Result, Ok}
+use Rattle.std.specs.Prelude.{◌≡◌, true, [], ℤ, pos, ◌≤ℤ◌, neg_ℤ, Some, Ok}
 use Rattle.og_types.specs.declared.TypeId.{TypeId}
 use Rattle.og_types.specs.declared.Value.{Value}
 use Rattle.og_types.specs.Table.{is_table}
@@ -8,13 +8,12 @@ use Rattle.og_types.specs.Values.{is_in}
 use Rattle.og_model.specs.declared.VarId.{VarId}
 use Rattle.og_model.specs.declared.Expr.{Expr}
 use Rattle.og_model.specs.declared.ExprSort.TheVariants.{Int}
-use Rattle.og_model.specs.declared.FaultKind.{FaultKind}
 use Rattle.og_model.specs.declared.UnaryOp.TheVariants.{Minus}
 use Rattle.og_model.specs.declared.BinaryOp.{BinaryOp}
 use Rattle.og_model.specs.Expressions.{Frame, Store, location_of, read, number_of, apply, unary, eval}
 use Rattle.og_model.specs.WellSorted.{Data, sort_of_variable, is_expression}
 use Rattle.og_ranges.specs.declared.Interval.{Interval}
-use Rattle.og_ranges.specs.Intervals.{LiesIn, IsInterval, negative_of}
+use Rattle.og_ranges.specs.Intervals.{LiesIn, negative_of}
 use Rattle.og_ranges.specs.Ranges.{is_within_64_bits, range_of}
 
 -- of numbers of two intervals the operator gives, where it gives any, a number of the third

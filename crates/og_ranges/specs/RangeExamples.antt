@@ -9,22 +9,18 @@ use Rattle.og_names.specs.declared.NameId.{NameId}
 use Rattle.og_types.specs.declared.TypeId.{TypeId}
 use Rattle.og_types.specs.declared.Sort.TheVariants as Sorts
 use Rattle.og_types.specs.declared.Value as Values
-use Rattle.og_model.specs.declared.Variable.{Variable}
-use Rattle.og_model.specs.declared.VarId.{VarId}
 use Rattle.og_model.specs.declared.VarId.TheVariants.{Process}
 use Rattle.og_model.specs.declared.UnaryOp.TheVariants.{Minus}
 use Rattle.og_model.specs.declared.BinaryOp.{BinaryOp}
 use Rattle.og_model.specs.declared.BinaryOp.TheVariants.{Add, Sub, Mul, Div, Mod, Rem, Lt}
 use Rattle.og_model.specs.declared.ExprSort.TheVariants.{Int, Bool as Truths}
-use Rattle.og_model.specs.declared.Target.{Target}
 use Rattle.og_model.specs.declared.Select.{Select}
 use Rattle.og_model.specs.declared.Select as selects
 use Rattle.og_model.specs.declared.Expr.{Expr}
 use Rattle.og_model.specs.declared.Node.{Node}
 use Rattle.og_model.specs.declared.Node as nodes
 use Rattle.og_model.specs.WellSorted.{Data}
-use Rattle.og_ranges.specs.declared.Interval.{Interval}
-use Rattle.og_ranges.specs.Ranges.{Range, point, without, range_of}
+use Rattle.og_ranges.specs.Ranges.{without, range_of}
 
 abbrev at : ℕ → Place
 at column = record { file = 0; line = 1; column = column }

@@ -2,7 +2,7 @@
 -- none can be said: an operator or a literal passes 64 bits (G1), or a right operand of `mod` or `rem` may be negative (G5). An
 -- expression of which a part violates one of both has no interval, and violates neither of them itself. The rules are this
 -- project's own.
-use Rattle.std.specs.Prelude.{ℕ, zero, suc, Bool, ◌&&◌, cond, if◌then◌else◌, List, [], ◌∷◌, ◌++◌, ℤ, pos, negsuc, int_lt, int_le, slice_get, Option, Some, None}
+use Rattle.std.specs.Prelude.{ℕ, zero, suc, Bool, ◌&&◌, cond, List, [], ◌∷◌, ◌++◌, ℤ, pos, negsuc, int_lt, int_le, slice_get, Option, Some, None}
 use Rattle.std.specs.List.{flat_map}
 use Rattle.og_base.specs.declared.Place.{Place}
 use Rattle.og_base.specs.declared.Rule.{Rule}
