@@ -6,3 +6,4 @@ pub mod Reached
 pub mod Walking
 pub mod Valued
 pub mod Within
+pub mod Called

@@ -1,5 +1,5 @@
 -- A value of an integer expression lies in the expression's interval.
-use Rattle.std.proofs.Common.{◌≡◌, ℕ, zero, suc, Bool, true, false, cond, List, [], ◌∷◌, ◌++◌, length, map, slice_get, Option, Some, None, refl, subst, arith, ◌≤◌, ℤ, pos, ◌≤ℤ◌, int_lt, int_le, Result, Ok, Err}
+use Rattle.std.proofs.Common.{◌≡◌, ℕ, zero, suc, Bool, true, false, cond, List, [], ◌∷◌, ◌++◌, length, map, slice_get, Option, Some, None, refl, sym, subst, ◌∙◌, arith, ◌≤◌, ℤ, pos, ◌≤ℤ◌, int_lt, int_le, Result, Ok, Err}
 use Rattle.std.specs.Prelude.{◌&&◌, nat_le}
 use Rattle.std.proofs.lemmas.Int.{ints}
 use Rattle.std.proofs.lemmas.Bool.{leb-true}
@@ -20,11 +20,12 @@ use Rattle.og_model.specs.declared.ExprSort.{ExprSort}
 use Rattle.og_model.specs.declared.ExprSort.TheVariants.{Int, Bool as Truths, Typed, Kind}
 use Rattle.og_model.specs.declared.Target.{Target}
 use Rattle.og_model.specs.declared.Select.{Select, out-Select}
-use Rattle.og_model.specs.declared.Expr.{Expr, size-Expr}
+use Rattle.og_model.specs.declared.Expr.{Expr}
 use Rattle.og_model.specs.declared.Node.{Node, Node-F, out-Node}
 use Rattle.og_model.specs.declared.Node.TheOpen as Nodes
-use Rattle.og_model.specs.Expressions.{Frame, Store, Walked, location_of, read, number_in, number_of, items_in, items_of, on_value, as_number, apply, unary, walk_by, eval_node, eval_within, eval, sort_at}
-use Rattle.og_model.specs.WellSorted.{Data, sort_from, same_sort, sort_of_variable, type_of, hop_of, leads_to, can_be_equal, is_alternative, is_sequence_of_items, is_length, is_present, is_node, is_sorted_within}
+use Rattle.og_model.specs.Expressions.{Frame, Store, Walked, location_of, read, number_in, number_of, items_in, items_of, on_value, as_number, apply, unary, walk_by, eval_node, eval, sort_at}
+use Rattle.og_model.specs.WellSorted.{Data, sort_from, same_sort, sort_of_variable, type_of, hop_of, leads_to, can_be_equal, is_alternative, is_sequence_of_items, is_length, is_present, is_node, is_place, is_sorted_within}
+use Rattle.og_model.proofs.Depth.{eval_is}
 use Rattle.og_ranges.specs.declared.Interval.{Interval}
 use Rattle.og_ranges.specs.Intervals.{LiesIn, sum_of, difference_of, negative_of, product_of, quotient_of, modulus_of, remainder_of}
 use Rattle.og_ranges.specs.Ranges.{Range, point, is_within_64_bits, tested, violates, divided, where_kept, bounds_of, lengths_of, sort_numbered, range_of_node, range_within, range_of}
@@ -176,83 +177,84 @@ module _ (d : Data) (b : Frame) (s : Store) (holds : HoldsValues d b s) where
           (in_lengths d.types (slice_get d.types id.0) (out-Value w.value) (opened d.types id w.value (target_fits worth t id w at leads)) (left_of _ _ is))
 
   abbrev LieWithin : ℕ → Type 0
-  LieWithin n = (m : ℕ) (e : Expr) → is_sorted_within m d e ≡ true → e.sort ≡ Int → (range_within n d e).violations ≡ [] → Gives (eval_within n b s e) (range_within n d e).interval
+  LieWithin n = (e : Expr) → is_sorted_within n d e ≡ true → e.sort ≡ Int → (range_within n d e).violations ≡ [] → Gives (eval b s e) (range_within n d e).interval
 
   -- two numbers under an operator
-  under : (n m : ℕ) → LieWithin n → (op : BinaryOp) (x y : Expr)
-      → (is_sorted_within m d x && (is_sorted_within m d y && (same_sort x.sort Int && (same_sort y.sort Int && same_sort Int Int)))) ≡ true
+  under : (n : ℕ) → LieWithin n → (op : BinaryOp) (x y : Expr)
+      → (is_sorted_within n d x && (is_sorted_within n d y && (same_sort x.sort Int && (same_sort y.sort Int && same_sort Int Int)))) ≡ true
       → (whole : Range)
       → (whole.violations ≡ [] → (p q v : Value) → LiesIn (number_of p) (range_within n d x).interval → LiesIn (number_of q) (range_within n d y).interval → apply op p q ≡ Ok v → LiesIn (number_of v) whole.interval)
       → (where_kept ((range_within n d x).violations ++ (range_within n d y).violations) whole).violations ≡ []
-      → Gives (on_value (eval_within n b s x) (λ p. on_value (eval_within n b s y) (λ q. apply op p q))) (where_kept ((range_within n d x).violations ++ (range_within n d y).violations) whole).interval
-  under n m lie op x y sorted whole gives none v e =
+      → Gives (on_value (eval b s x) (λ p. on_value (eval b s y) (λ q. apply op p q))) (where_kept ((range_within n d x).violations ++ (range_within n d y).violations) whole).interval
+  under n lie op x y sorted whole gives none v e =
       kept_is ((range_within n d x).violations ++ (range_within n d y).violations) whole (number_of v) none (λ empty kept.
-      both_give op (range_within n d x).interval (range_within n d y).interval whole.interval (gives kept) (eval_within n b s x) (eval_within n b s y)
-      (lie m x (left_of _ _ sorted) (same_sorts x.sort (third_of (is_sorted_within m d x) (is_sorted_within m d y) (same_sort x.sort Int) (same_sort y.sort Int) true sorted)) (first_empty (range_within n d x).violations (range_within n d y).violations empty))
-      (lie m y (second_of_three (is_sorted_within m d x) (is_sorted_within m d y) (same_sort x.sort Int && (same_sort y.sort Int && true)) sorted) (same_sorts y.sort (fourth_of (is_sorted_within m d x) (is_sorted_within m d y) (same_sort x.sort Int) (same_sort y.sort Int) true sorted)) (second_empty (range_within n d x).violations (range_within n d y).violations empty))
+      both_give op (range_within n d x).interval (range_within n d y).interval whole.interval (gives kept) (eval b s x) (eval b s y)
+      (lie x (left_of _ _ sorted) (same_sorts x.sort (third_of (is_sorted_within n d x) (is_sorted_within n d y) (same_sort x.sort Int) (same_sort y.sort Int) true sorted)) (first_empty (range_within n d x).violations (range_within n d y).violations empty))
+      (lie y (second_of_three (is_sorted_within n d x) (is_sorted_within n d y) (same_sort x.sort Int && (same_sort y.sort Int && true)) sorted) (same_sorts y.sort (fourth_of (is_sorted_within n d x) (is_sorted_within n d y) (same_sort x.sort Int) (same_sort y.sort Int) true sorted)) (second_empty (range_within n d x).violations (range_within n d y).violations empty))
       v e)
 
   -- a number with the other sign
-  signed : (n m : ℕ) → LieWithin n → (place : Place) (x : Expr) → (is_sorted_within m d x && (same_sort x.sort Int && same_sort Int Int)) ≡ true
+  signed : (n : ℕ) → LieWithin n → (place : Place) (x : Expr) → (is_sorted_within n d x && (same_sort x.sort Int && same_sort Int Int)) ≡ true
       → (where_kept (range_within n d x).violations (tested place (negative_of (range_within n d x).interval))).violations ≡ []
-      → Gives (on_value (eval_within n b s x) (unary Minus)) (where_kept (range_within n d x).violations (tested place (negative_of (range_within n d x).interval))).interval
-  signed n m lie place x sorted none v e =
+      → Gives (on_value (eval b s x) (unary Minus)) (where_kept (range_within n d x).violations (tested place (negative_of (range_within n d x).interval))).interval
+  signed n lie place x sorted none v e =
       kept_is (range_within n d x).violations (tested place (negative_of (range_within n d x).interval)) (number_of v) none (λ empty kept.
       tested_is place (negative_of (range_within n d x).interval) (number_of v) kept
-      (sign_gives (range_within n d x).interval (eval_within n b s x) (lie m x (left_of _ _ sorted) (same_sorts x.sort (second_of_three (is_sorted_within m d x) (same_sort x.sort Int) true sorted)) empty) v e))
+      (sign_gives (range_within n d x).interval (eval b s x) (lie x (left_of _ _ sorted) (same_sorts x.sort (second_of_three (is_sorted_within n d x) (same_sort x.sort Int) true sorted)) empty) v e))
 
-  abbrev NodeLies : (n m : ℕ) (place : Place) → Node-F Node Select Expr Target → Type 0
-  NodeLies n m place o = is_node (is_sorted_within m d) d Int o ≡ true → (range_of_node (range_within n d) d place o).violations ≡ [] → Gives (eval_node (eval_within n b s) b s o) (range_of_node (range_within n d) d place o).interval
+  abbrev NodeLies : (n : ℕ) (place : Place) → Node-F Node Select Expr Target → Type 0
+  NodeLies n place o = is_node (is_sorted_within n d) d Int o ≡ true → (range_of_node (range_within n d) d place o).violations ≡ [] → Gives (eval_node (eval b s) b s o) (range_of_node (range_within n d) d place o).interval
 
-  binary_lies : (n m : ℕ) → LieWithin n → (place : Place) (op : BinaryOp) (x y : Expr) → NodeLies n m place (Nodes.Binary op x y)
-  binary_lies n m lie place Ops.Add x y sorted none v e = under n m lie Ops.Add x y sorted (tested place (sum_of (range_within n d x).interval (range_within n d y).interval))
+  binary_lies : (n : ℕ) → LieWithin n → (place : Place) (op : BinaryOp) (x y : Expr) → NodeLies n place (Nodes.Binary op x y)
+  binary_lies n lie place Ops.Add x y sorted none v e = under n lie Ops.Add x y sorted (tested place (sum_of (range_within n d x).interval (range_within n d y).interval))
       (λ kept p q u h k f. tested_is place (sum_of (range_within n d x).interval (range_within n d y).interval) (number_of u) kept (sums_hold (range_within n d x).interval (range_within n d y).interval p q u h k f)) none v e
-  binary_lies n m lie place Ops.Sub x y sorted none v e = under n m lie Ops.Sub x y sorted (tested place (difference_of (range_within n d x).interval (range_within n d y).interval))
+  binary_lies n lie place Ops.Sub x y sorted none v e = under n lie Ops.Sub x y sorted (tested place (difference_of (range_within n d x).interval (range_within n d y).interval))
       (λ kept p q u h k f. tested_is place (difference_of (range_within n d x).interval (range_within n d y).interval) (number_of u) kept (differences_hold (range_within n d x).interval (range_within n d y).interval p q u h k f)) none v e
-  binary_lies n m lie place Ops.Mul x y sorted none v e = under n m lie Ops.Mul x y sorted (tested place (product_of (range_within n d x).interval (range_within n d y).interval))
+  binary_lies n lie place Ops.Mul x y sorted none v e = under n lie Ops.Mul x y sorted (tested place (product_of (range_within n d x).interval (range_within n d y).interval))
       (λ kept p q u h k f. tested_is place (product_of (range_within n d x).interval (range_within n d y).interval) (number_of u) kept (products_hold (range_within n d x).interval (range_within n d y).interval p q u h k f)) none v e
-  binary_lies n m lie place Ops.Div x y sorted none v e = under n m lie Ops.Div x y sorted (tested place (quotient_of (range_within n d x).interval (range_within n d y).interval))
+  binary_lies n lie place Ops.Div x y sorted none v e = under n lie Ops.Div x y sorted (tested place (quotient_of (range_within n d x).interval (range_within n d y).interval))
       (λ kept p q u h k f. tested_is place (quotient_of (range_within n d x).interval (range_within n d y).interval) (number_of u) kept (quotients_hold (range_within n d x).interval (range_within n d y).interval p q u h k f)) none v e
-  binary_lies n m lie place Ops.Mod x y sorted none v e = under n m lie Ops.Mod x y sorted (divided place (range_within n d y).interval (modulus_of (range_within n d x).interval (range_within n d y).interval))
+  binary_lies n lie place Ops.Mod x y sorted none v e = under n lie Ops.Mod x y sorted (divided place (range_within n d y).interval (modulus_of (range_within n d x).interval (range_within n d y).interval))
       (λ kept p q u h k f. divided_is place (range_within n d y).interval (modulus_of (range_within n d x).interval (range_within n d y).interval) (number_of u) kept (λ least. moduli_hold (range_within n d x).interval (range_within n d y).interval p q u least h k f)) none v e
-  binary_lies n m lie place Ops.Rem x y sorted none v e = under n m lie Ops.Rem x y sorted (divided place (range_within n d y).interval (remainder_of (range_within n d x).interval (range_within n d y).interval))
+  binary_lies n lie place Ops.Rem x y sorted none v e = under n lie Ops.Rem x y sorted (divided place (range_within n d y).interval (remainder_of (range_within n d x).interval (range_within n d y).interval))
       (λ kept p q u h k f. divided_is place (range_within n d y).interval (remainder_of (range_within n d x).interval (range_within n d y).interval) (number_of u) kept (λ least. rests_hold (range_within n d x).interval (range_within n d y).interval p q u least h k f)) none v e
-  binary_lies n m lie place Ops.Eq x y sorted none v e = cc (last_of (is_sorted_within m d x) (is_sorted_within m d y) (can_be_equal d.types x.sort) (same_sort x.sort x.sort) (same_sort y.sort x.sort) false sorted)
-  binary_lies n m lie place Ops.Ne x y sorted none v e = cc (last_of (is_sorted_within m d x) (is_sorted_within m d y) (can_be_equal d.types x.sort) (same_sort x.sort x.sort) (same_sort y.sort x.sort) false sorted)
-  binary_lies n m lie place Ops.Lt x y sorted none v e = cc (fifth_of (is_sorted_within m d x) (is_sorted_within m d y) (same_sort x.sort Int) (same_sort y.sort Int) false sorted)
-  binary_lies n m lie place Ops.Le x y sorted none v e = cc (fifth_of (is_sorted_within m d x) (is_sorted_within m d y) (same_sort x.sort Int) (same_sort y.sort Int) false sorted)
-  binary_lies n m lie place Ops.Gt x y sorted none v e = cc (fifth_of (is_sorted_within m d x) (is_sorted_within m d y) (same_sort x.sort Int) (same_sort y.sort Int) false sorted)
-  binary_lies n m lie place Ops.Ge x y sorted none v e = cc (fifth_of (is_sorted_within m d x) (is_sorted_within m d y) (same_sort x.sort Int) (same_sort y.sort Int) false sorted)
-  binary_lies n m lie place Ops.And x y sorted none v e = cc (fifth_of (is_sorted_within m d x) (is_sorted_within m d y) (same_sort x.sort Truths) (same_sort y.sort Truths) false sorted)
-  binary_lies n m lie place Ops.Or x y sorted none v e = cc (fifth_of (is_sorted_within m d x) (is_sorted_within m d y) (same_sort x.sort Truths) (same_sort y.sort Truths) false sorted)
-  binary_lies n m lie place Ops.Xor x y sorted none v e = cc (fifth_of (is_sorted_within m d x) (is_sorted_within m d y) (same_sort x.sort Truths) (same_sort y.sort Truths) false sorted)
-  binary_lies n m lie place Ops.AndThen x y sorted none v e = cc (fifth_of (is_sorted_within m d x) (is_sorted_within m d y) (same_sort x.sort Truths) (same_sort y.sort Truths) false sorted)
-  binary_lies n m lie place Ops.OrElse x y sorted none v e = cc (fifth_of (is_sorted_within m d x) (is_sorted_within m d y) (same_sort x.sort Truths) (same_sort y.sort Truths) false sorted)
+  binary_lies n lie place Ops.Eq x y sorted none v e = cc (last_of (is_sorted_within n d x) (is_sorted_within n d y) (can_be_equal d.types x.sort) (same_sort x.sort x.sort) (same_sort y.sort x.sort) false sorted)
+  binary_lies n lie place Ops.Ne x y sorted none v e = cc (last_of (is_sorted_within n d x) (is_sorted_within n d y) (can_be_equal d.types x.sort) (same_sort x.sort x.sort) (same_sort y.sort x.sort) false sorted)
+  binary_lies n lie place Ops.Lt x y sorted none v e = cc (fifth_of (is_sorted_within n d x) (is_sorted_within n d y) (same_sort x.sort Int) (same_sort y.sort Int) false sorted)
+  binary_lies n lie place Ops.Le x y sorted none v e = cc (fifth_of (is_sorted_within n d x) (is_sorted_within n d y) (same_sort x.sort Int) (same_sort y.sort Int) false sorted)
+  binary_lies n lie place Ops.Gt x y sorted none v e = cc (fifth_of (is_sorted_within n d x) (is_sorted_within n d y) (same_sort x.sort Int) (same_sort y.sort Int) false sorted)
+  binary_lies n lie place Ops.Ge x y sorted none v e = cc (fifth_of (is_sorted_within n d x) (is_sorted_within n d y) (same_sort x.sort Int) (same_sort y.sort Int) false sorted)
+  binary_lies n lie place Ops.And x y sorted none v e = cc (fifth_of (is_sorted_within n d x) (is_sorted_within n d y) (same_sort x.sort Truths) (same_sort y.sort Truths) false sorted)
+  binary_lies n lie place Ops.Or x y sorted none v e = cc (fifth_of (is_sorted_within n d x) (is_sorted_within n d y) (same_sort x.sort Truths) (same_sort y.sort Truths) false sorted)
+  binary_lies n lie place Ops.Xor x y sorted none v e = cc (fifth_of (is_sorted_within n d x) (is_sorted_within n d y) (same_sort x.sort Truths) (same_sort y.sort Truths) false sorted)
+  binary_lies n lie place Ops.AndThen x y sorted none v e = cc (fifth_of (is_sorted_within n d x) (is_sorted_within n d y) (same_sort x.sort Truths) (same_sort y.sort Truths) false sorted)
+  binary_lies n lie place Ops.OrElse x y sorted none v e = cc (fifth_of (is_sorted_within n d x) (is_sorted_within n d y) (same_sort x.sort Truths) (same_sort y.sort Truths) false sorted)
 
-  node_lies : (n m : ℕ) → LieWithin n → (place : Place) (o : Node-F Node Select Expr Target) → NodeLies n m place o
-  node_lies n m lie place (Nodes.Number z) sorted none v e = tested_is place (point z) (number_of v) none (given (point z) z v e (record { not_below = omega (arith, ints); not_above = omega (arith, ints) }))
-  node_lies n m lie place (Nodes.Truth t) sorted none v e = cc
-  node_lies n m lie place (Nodes.Item k) sorted none v e = cc
-  node_lies n m lie place (Nodes.Get t) sorted none v e = got (eval_within n b s) t (type_of d t) refl (right_of _ _ sorted) v e
-  node_lies n m lie place (Nodes.Length t) sorted none v e = counted (eval_within n b s) t (type_of d t) refl (right_of _ _ sorted) v e
-  node_lies n m lie place (Nodes.Present t) sorted none v e = no_kind (type_of d t) (right_of _ _ sorted)
+  node_lies : (n : ℕ) → LieWithin n → (place : Place) (o : Node-F Node Select Expr Target) → NodeLies n place o
+  node_lies n lie place (Nodes.Number z) sorted none v e = tested_is place (point z) (number_of v) none (given (point z) z v e (record { not_below = omega (arith, ints); not_above = omega (arith, ints) }))
+  node_lies n lie place (Nodes.Truth t) sorted none v e = cc
+  node_lies n lie place (Nodes.Item k) sorted none v e = cc
+  node_lies n lie place (Nodes.Get t) sorted none v e = got (eval b s) t (type_of d t) refl (right_of _ _ sorted) v e
+  node_lies n lie place (Nodes.Length t) sorted none v e = counted (eval b s) t (type_of d t) refl (right_of _ _ sorted) v e
+  node_lies n lie place (Nodes.Present t) sorted none v e = no_kind (type_of d t) (right_of _ _ sorted)
     where
       no_kind : (o : Option TypeId) → is_present d.types o Int ≡ true → LiesIn (number_of v) (point (pos 0))
       no_kind None is = cc
       no_kind (Some id) is = cc (right_of (is_alternative 0 (slice_get d.types id.0)) false is)
-  node_lies n m lie place (Nodes.Unary Minus x) sorted none v e = signed n m lie place x sorted none v e
-  node_lies n m lie place (Nodes.Unary Not x) sorted none v e = cc (third_of_three (is_sorted_within m d x) (same_sort x.sort Truths) false sorted)
-  node_lies n m lie place (Nodes.Binary op x y) sorted none v e = binary_lies n m lie place op x y sorted none v e
-  node_lies n m lie place (Nodes.Sequence es) sorted none v e = cc
-  node_lies n m lie place (Nodes.SeqOf es) sorted none v e = cc
-  node_lies n m lie place (Nodes.Choice k x) sorted none v e = cc
+  node_lies n lie place (Nodes.Unary Minus x) sorted none v e = signed n lie place x sorted none v e
+  node_lies n lie place (Nodes.Unary Not x) sorted none v e = cc (third_of_three (is_sorted_within n d x) (same_sort x.sort Truths) false sorted)
+  node_lies n lie place (Nodes.Binary op x y) sorted none v e = binary_lies n lie place op x y sorted none v e
+  node_lies n lie place (Nodes.Sequence es) sorted none v e = cc
+  node_lies n lie place (Nodes.SeqOf es) sorted none v e = cc
+  node_lies n lie place (Nodes.Choice k x) sorted none v e = cc
 
   lie_within : (n : ℕ) → LieWithin n
-  lie_within zero m x sorted is none v e = given (point (pos 0)) (pos 0) v e (record { not_below = omega (arith, ints); not_above = omega (arith, ints) })
-  lie_within (suc n) zero x sorted is none v e = cc
-  lie_within (suc n) (suc m) x sorted is none v e =
-      node_lies n m (lie_within n) x.place (out-Node x.node) (subst (λ (t : ExprSort). is_node (is_sorted_within m d) d t (out-Node x.node) ≡ true) is (third_of_three _ _ _ sorted)) none v e
+  lie_within zero x sorted is none v e = cc
+  lie_within (suc n) x sorted is none v e =
+      node_lies n (lie_within n) x.place (out-Node x.node)
+      (subst (λ (t : ExprSort). is_node (is_sorted_within n d) d t (out-Node x.node) ≡ true) is (third_of_three (is_place x.place) (is_place x.first) (is_node (is_sorted_within n d) d x.sort (out-Node x.node)) sorted))
+      none v (sym (eval_is b s x) ∙ e)
 
 pub values_lie : ValuesLieInTheirIntervals
-unfolding range_of eval
-values_lie d b s x v holds sorted is none e = lie_within d b s holds (size-Expr x) 64 x sorted is none v e
+unfolding range_of
+values_lie d b s x v holds sorted is none e = lie_within d b s holds 64 x sorted is none v e

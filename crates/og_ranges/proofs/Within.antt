@@ -17,7 +17,7 @@ use Rattle.og_model.specs.declared.BinaryOp.{BinaryOp}
 use Rattle.og_model.specs.declared.BinaryOp.TheVariants as Ops
 use Rattle.og_model.specs.declared.Target.{Target}
 use Rattle.og_model.specs.declared.Select.{Select}
-use Rattle.og_model.specs.declared.Expr.{Expr, size-Expr}
+use Rattle.og_model.specs.declared.Expr.{Expr}
 use Rattle.og_model.specs.declared.Node.{Node, Node-F, out-Node}
 use Rattle.og_model.specs.declared.Node.TheOpen as Nodes
 use Rattle.og_model.specs.WellSorted.{Data, type_of}
@@ -168,10 +168,10 @@ module _ (d : Data) (table : is_table d.types ≡ true) where
   node_is n inner place (Nodes.SeqOf es) = zero_is
   node_is n inner place (Nodes.Choice k x) = zero_is
 
-  within_is : (n : ℕ) (e : Expr) → IsWithin (range_within n d e).interval
+  pub within_is : (n : ℕ) (e : Expr) → IsWithin (range_within n d e).interval
   within_is zero e = zero_is
   within_is (suc n) e = node_is n (within_is n) e.place (out-Node e.node)
 
 pub have_intervals : NumbersHaveIntervals
 unfolding range_of
-have_intervals d e table = within_is d table (size-Expr e) e
+have_intervals d e table = within_is d table 64 e

@@ -3,3 +3,4 @@ pub mod Ranges
 pub mod Laws
 pub mod Examples
 pub mod RangeExamples
+pub mod Calls

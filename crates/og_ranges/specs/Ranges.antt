@@ -18,7 +18,7 @@ use Rattle.og_model.specs.declared.BinaryOp.{BinaryOp}
 use Rattle.og_model.specs.declared.BinaryOp.TheVariants.{Add, Sub, Mul, Div, Mod, Rem}
 use Rattle.og_model.specs.declared.Target.{Target}
 use Rattle.og_model.specs.declared.Select.{Select, Select-F, out-Select}
-use Rattle.og_model.specs.declared.Expr.{Expr, size-Expr}
+use Rattle.og_model.specs.declared.Expr.{Expr}
 use Rattle.og_model.specs.declared.Node.{Node, Node-F, out-Node}
 use Rattle.og_model.specs.declared.Node.TheOpen as Nodes
 use Rattle.og_model.specs.WellSorted.{Data, type_of}
@@ -125,5 +125,6 @@ abbrev pub range_within : ℕ → Data → Expr → Range
 range_within zero d e = without []
 range_within (suc depth) d e = range_of_node (range_within depth d) d e.place (out-Node e.node)
 
+-- an expression is at most 64 deep
 unfoldable pub range_of : Data → Expr → Range
-range_of d e = range_within (size-Expr e) d e
+range_of d e = range_within 64 d e
