@@ -6,7 +6,9 @@ file of the same length.
 
 The files hold processes with states, decisions and assignments, 1, 4 and 16 MB of them. Told is the least processor
 time of five processes that read a file, with its bytes cut into tokens, and that of `gcc -fsyntax-only` on C with as
-many bytes. The status is 1 where the exponent is over 1.1, or where the compiler is faster.
+many bytes. Then two files at their limits: a process with 200,000 states, and 64 MiB of opening brackets. The
+status is 1 where the exponent is over 1.1, where the compiler is faster, or where one of these files is answered
+otherwise than it should be.
 """
 import math
 import os
@@ -84,6 +86,22 @@ def one_size(size, folder):
     return took, compiler
 
 
+def limits(folder):
+    """Whether the files at their limits are answered as they should be."""
+    states = ''.join(f'STATE s{i};\nENDSTATE;\n' for i in range(200_000))
+    right = True
+    for name, text, wanted in (
+        ('200,000 states', f'PROCESS p; START; NEXTSTATE s0;\n{states}ENDPROCESS;\n', '1'),
+        ('64 MiB of brackets', '(' * 67_108_864, 'S1 1:1'),
+    ):
+        with open(os.path.join(folder, 'model.pr'), 'w') as f:
+            f.write(text)
+        took, answer = seconds([PROGRAM], 'units model.pr\n', folder, readings=1)
+        right = right and answer == f'== units model.pr\n{wanted}\n\n'
+        print(f'{name}: {answer.split(chr(10))[1]} after {took * 1000:.0f} ms')
+    return right
+
+
 def main():
     print('| bytes | parse_units | gcc -fsyntax-only |')
     print('|---|---|---|')
@@ -93,9 +111,10 @@ def main():
             took, compiler = one_size(size, folder)
             found.append((took, compiler))
             print(f'| {size:,} | {took * 1000:.0f} ms | {compiler * 1000:.0f} ms |', flush=True)
+        right = limits(folder)
     exponent = math.log(found[-1][0] / found[0][0]) / math.log(SIZES[-1] / SIZES[0])
     print(f'the exponent is {exponent:.2f}')
-    return exponent > 1.1 or any(took > compiler for took, compiler in found)
+    return not right or exponent > 1.1 or any(took > compiler for took, compiler in found)
 
 
 if __name__ == '__main__':

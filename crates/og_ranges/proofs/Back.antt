@@ -1,5 +1,5 @@
 -- Numbers that code computed in 128 bits are the numbers, since none of them passes 127.
-use Rattle.std.proofs.Common.{◌≡◌, ℕ, ◌*◌, ◌^◌, ◌<◌, ◌≤◌, refl, ◌∙◌, arith, ℤ, pos, negsuc, ◌*ℤ◌, ◌≤ℤ◌, int_div, unsigned_abs, FitsSigned, to_z, of_z}
+use Rattle.std.proofs.Common.{◌≡◌, ◌≤◌, ◌∙◌, arith, ℤ, pos, negsuc, ◌*ℤ◌, ◌≤ℤ◌, int_div, unsigned_abs, FitsSigned, to_z, of_z}
 use Rattle.std.proofs.lemmas.Int.{ints, to_z-of_z, fits_signed_mul, quot_is, quot_fits}
 use Rattle.std.specs.Int.{w128}
 use Rattle.og_ranges.specs.declared.Interval.{Interval}

@@ -1,12 +1,12 @@
 -- Results between those at the ends of intervals: products and quotients rise or fall with each operand, whatever the other.
-use Rattle.std.proofs.Common.{◌≡◌, ℕ, zero, suc, ◌+◌, ◌-◌, ◌*◌, ◌/◌, ◌%◌, ◌<◌, ◌≤◌, max, Bool, true, false, cond, ◌⊎◌, inl, inr, refl, sym, subst, ap, ◌∙◌, arith, ℤ, pos, negsuc, ◌+ℤ◌, ◌-ℤ◌, ◌*ℤ◌, neg_ℤ, ◌≤ℤ◌, ◌<ℤ◌, int_le, int_lt, int_div, int_rem, unsigned_abs}
-use Rattle.std.proofs.Math.Nat.{mul-le-mul_right, mul-le-mul_left, div-le_self, div-mul-le_self, mod-lt}
+use Rattle.std.proofs.Common.{◌≡◌, ℕ, suc, ◌+◌, ◌/◌, ◌<◌, ◌≤◌, max, Bool, true, false, cond, refl, arith, ℤ, pos, negsuc, ◌*ℤ◌, ◌≤ℤ◌, int_le, int_div, unsigned_abs}
+use Rattle.std.proofs.Math.Nat.{mul-le-mul_right, mul-le-mul_left, div-le_self, div-mul-le_self}
 use Rattle.std.proofs.lemmas.Nat.{le-div}
 use Rattle.std.proofs.lemmas.Int.{ints, clamps}
-use Rattle.std.specs.Int.{int_min, int_max, int_rem_euclid}
+use Rattle.std.specs.Int.{int_min, int_max}
 use borrow.Author.Differences.{up, down}
 use Rattle.og_ranges.specs.declared.Interval.{Interval}
-use Rattle.og_ranges.specs.Intervals.{LiesIn, spanned, corners, up_to, farthest, leaves_at_most}
+use Rattle.og_ranges.specs.Intervals.{LiesIn, spanned, corners, up_to, farthest}
 
 -- a number from the lesser to the greater of two
 pub record Between (p q z : ℤ) : Type 0 where

@@ -1,5 +1,5 @@
 -- What divisions leave, where no divisor is negative.
-use Rattle.std.proofs.Common.{◌≡◌, ℕ, zero, suc, ◌+◌, ◌-◌, ◌%◌, ◌<◌, ◌≤◌, Bool, true, false, cond, refl, sym, arith, ℤ, pos, negsuc, ◌-ℤ◌, neg_ℤ, ◌≤ℤ◌, int_lt, int_rem, unsigned_abs}
+use Rattle.std.proofs.Common.{◌≡◌, ℕ, zero, suc, ◌-◌, ◌%◌, ◌<◌, Bool, true, false, cond, refl, sym, arith, ℤ, pos, negsuc, ◌-ℤ◌, neg_ℤ, ◌≤ℤ◌, int_lt, int_rem}
 use Rattle.std.proofs.Math.Nat.{mod-lt}
 use Rattle.std.proofs.lemmas.Bool.{false≢true}
 use Rattle.std.proofs.lemmas.Bool.Decides.{Decides-int_eq}
@@ -33,7 +33,7 @@ rest_holds a b x z r h less above below lower upper = record { not_below = low (
     high true e = let most = left_below b r less in omega (arith, ints)
     high false e = lower (omega (arith, ints, h.not_above))
 
-not_zero : (n : ℕ) → int_eq (pos n) (pos 0) ≡ false → 0 < n
+pub not_zero : (n : ℕ) → int_eq (pos n) (pos 0) ≡ false → 0 < n
 not_zero zero e = absurd (false≢true (sym e))
 not_zero (suc n) e = omega arith
 

@@ -1,9 +1,9 @@
 -- The ends of the intervals of sums, differences, products and signs are reached.
-use Rattle.std.proofs.Common.{◌≡◌, Bool, true, false, cond, refl, sym, ap, ◌∙◌, ◌⊎◌, inl, inr, arith, ℤ, pos, ◌+ℤ◌, ◌-ℤ◌, ◌*ℤ◌, neg_ℤ, ◌≤ℤ◌, int_lt}
+use Rattle.std.proofs.Common.{Bool, true, false, cond, refl, arith, ℤ, ◌+ℤ◌, ◌-ℤ◌, ◌*ℤ◌, ◌≤ℤ◌, int_lt}
 use Rattle.std.proofs.lemmas.Int.{ints}
 use Rattle.std.specs.Int.{int_min, int_max}
 use Rattle.og_ranges.specs.declared.Interval.{Interval}
-use Rattle.og_ranges.specs.Intervals.{LiesIn, sum_of, difference_of, negative_of, product_of}
+use Rattle.og_ranges.specs.Intervals.{LiesIn, sum_of, difference_of, product_of}
 use Rattle.og_ranges.specs.Laws.{Reaches, ReachesItsEnds, SignReachesItsEnds}
 
 first_in : (a : Interval) → a.lo ≤ℤ a.hi → LiesIn a.lo a

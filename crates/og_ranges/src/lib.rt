@@ -4,8 +4,12 @@
 pub mod examples;
 pub mod laws;
 mod operations;
+mod ranges;
+mod targets;
 
 pub use operations::{add, div, modulo, mul, neg, rem, sub};
+pub use ranges::range;
+pub use targets::{Declared, sort_of_target};
 
 /// The whole numbers from `lo` to `hi`, both of them among these.
 #[derive(Clone, Copy, Debug, PartialEq, Eq)]
