@@ -1,0 +1,9 @@
+pub mod Adding
+pub mod Noticed
+pub mod Counted
+pub mod Foremost
+pub mod ByTables
+pub mod Along
+pub mod Opens
+pub mod Judged
+pub mod Worked

@@ -1,0 +1,11 @@
+pub mod Scopes
+pub mod Bodies
+pub mod Counting
+pub mod Lent
+pub mod Tables
+pub mod Ways
+pub mod WayTables
+pub mod Closing
+pub mod Examples
+pub mod WayExamples
+pub mod ClosingExamples
