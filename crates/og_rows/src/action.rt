@@ -23,6 +23,10 @@ pub enum Action {
     Write,
     /// `machine FILE COUNT`: statements of the start of a program that is loaded over a model with a timer.
     Machine,
+    /// `view FILE ..`: the types and constants of modules of ASN.1.
+    View,
+    /// `value FILE TYPE TEXTS`: what each line of a file reads as, as a value of a type of a file of ASN.1.
+    Value,
 }
 
 /// The action of this word.
@@ -38,6 +42,8 @@ pub fn action_of(word: &str) -> Option<Action> {
         "read" => Some(Action::Read),
         "write" => Some(Action::Write),
         "machine" => Some(Action::Machine),
+        "view" => Some(Action::View),
+        "value" => Some(Action::Value),
         _ => None,
     }
 }

@@ -11,6 +11,8 @@ use crate::section::{Line, Opening, Section};
 use crate::stimuli::show_stimuli;
 use crate::tokens::show_tokens;
 use crate::tree::{show_place, show_tree};
+use crate::values::show_values;
+use crate::view::show_view;
 use og_lexer::Language;
 use std::alloc::{AllocError, Global};
 
@@ -78,6 +80,8 @@ fn show_action(alloc: Global, case: &mut Case, out: &mut String) -> Result<(), W
         Action::Write => show_write(alloc, case, one_file(case)?, out)?,
         Action::Read => return show_read(alloc, case, out),
         Action::Machine => return show_machine(alloc, case, out),
+        Action::View => return show_view(alloc, case, out),
+        Action::Value => return show_values(alloc, case, out),
     }
     Ok(())
 }

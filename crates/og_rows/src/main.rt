@@ -14,6 +14,8 @@ mod section;
 mod stimuli;
 mod tokens;
 mod tree;
+mod values;
+mod view;
 
 use crate::section::{Opening, sections_of};
 use std::alloc::{AllocError, Global};
