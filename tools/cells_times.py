@@ -1,12 +1,13 @@
 #!/usr/bin/env python3
-"""Measures how long `og run` takes: a statement that assigns to one item of an array, by the size of the array, and a
-run over a million stimuli, beside the same C as gcc compiles it.
+"""Measures how long `og run` takes: statements that assign to the middle item of an array, by the size of the array, and
+a run over a million stimuli, beside the same C as gcc compiles it. That of statements that assign to one item after the
+other is told too, and judged nowhere: it goes through more memory, the larger the array is.
 
     (cd crates/og_main && rt run) ; tools/cells_times.py
 
 Each time is the least processor time of nine processes. From that of the arrays the time of a process is taken that
-carries out no assignment. The status is 1 where the arrays differ by more than a tenth, where the run takes more than
-twice the time of the compiled C, or where a trace is not the one that is wanted.
+carries out no assignment. The status is 1 where the times for the middle item differ by more than a tenth, where the run
+takes more than twice the time of the compiled C, or where a trace is not the one that is wanted.
 """
 import os
 import resource
@@ -35,7 +36,7 @@ int64_t r; int64_t stopped; int64_t f_kind; int64_t f_file; int64_t f_line; int6
 void start(void) {
     turn:;
     if (i == INT64_C(%d)) goto done;
-    w.e[i %% INT64_C(%d)] = i;
+    w.e[%s] = i;
     i = i + INT64_C(1);
     goto turn;
     done:;
@@ -93,20 +94,31 @@ def written(name, text):
     return name
 
 
-def one_array(size, turns):
-    text = written('array.c', ARRAY % (size, turns, size))
+def middle(size):
+    """The index of one item, which is the same in each turn."""
+    return f'INT64_C({size // 2})'
+
+
+def walk(size):
+    """The index of one item after the other."""
+    return f'i % INT64_C({size})'
+
+
+def one_array(index, size, turns):
+    text = written('array.c', ARRAY % (size, turns, index(size)))
     took, told = seconds([PROGRAM, 'run', 'lamp.pr', text, 'empty.stim', '--steps', '1000000000'])
     if told != b'> start\nrest\nstate dark\n':
         sys.exit(f'an array of {size}: the trace is {told[:99]}')
     return took
 
 
-def arrays():
+def arrays(index, told):
+    """Whether the times by the size of the array are the same within a tenth."""
     found = []
     for size in SIZES:
-        took = one_array(size, TURNS) - one_array(size, 0)
+        took = one_array(index, size, TURNS) - one_array(index, size, 0)
         found.append(took)
-        print(f'an array of {size} items: {5 * TURNS / took / 1e6:.2f} million statements a second')
+        print(f'an array of {size} items, {told}: {5 * TURNS / took / 1e6:.2f} million statements a second')
     return max(found) <= 1.1 * min(found)
 
 
@@ -127,7 +139,8 @@ def main():
         os.chdir(folder)
         written('lamp.pr', MODEL)
         written('empty.stim', '')
-        fine = [arrays(), million()]
+        fine = [arrays(middle, 'one of them assigned to'), million()]
+        arrays(walk, 'each assigned to in turn')
     sys.exit(0 if all(fine) else 1)
 
 
