@@ -7,3 +7,4 @@ pub mod Along
 pub mod Opens
 pub mod Judged
 pub mod Worked
+pub mod Homes

@@ -1,7 +1,7 @@
 //! Laws of systems and blocks, each as the contract of a function that does nothing.
-ghost use Rattle.std.specs.Prelude.{◌≡◌, ◌↔◌, ℕ, List, [], ◌∷◌, None};
+ghost use Rattle.std.specs.Prelude.{◌≡◌, ◌↔◌, ℕ, List, [], ◌∷◌, None, Some};
 ghost use Rattle.og_ast.specs.declared.system.Unit.{Unit as UnitTree};
-ghost use Rattle.og_system.specs.Bodies.{Body, bodies, violations, first_violation};
+ghost use Rattle.og_system.specs.Bodies.{Body, Home, bodies, home_of, violations, first_violation};
 ghost use Rattle.og_system.specs.Examples.{NothingAtAll, ReferenceAlone, OneBody, TwoBodies, SameFileTwice, ReferenceInAnotherCase, BodyWithoutReference, ReferenceWithoutBody, ReferenceToABodyInItsBlock, ReferenceToASignal, ReferenceToAType, RouteToAnotherProcess, RouteToItsBlock, ChannelToAProcess, ChannelWithoutItsSignal, Connected, ConnectedTheWrongWayRound, HomeByReference, FirstBody};
 ghost use Rattle.og_system.specs.WayExamples.{NoWays, RoutesOfTheProcess, RoutesOfOthers, RouteBeforeChannel, ChannelsAlone, ChannelsOfOthers, ToItself};
 ghost use Rattle.og_system.specs.ClosingExamples.{StopCloses, TaskAloneDoesNot, NothingDoesNot, EachBranchCloses, BranchesWithoutElse, OneBranchDoesNot, ElseDoesNot, TaskBehindADecision, DecisionInABranch, StartAndStop, NoStart, NamedStartAlone, InAState, CompositeAndPartition, ProcedureOfASystem};
@@ -11,9 +11,10 @@ pub fn first_of_violations()
     ensures { (file : ℕ) (types : List (List ℕ)) (units : List UnitTree) → (first_violation file types units ≡ None) ↔ (violations file types units ≡ []) }
 {}
 
-/// Where no rule is violated there is one body.
+/// Where no rule is violated there is one body, and it belongs to a block.
 pub fn one_process()
-    ensures { (file : ℕ) (types : List (List ℕ)) (units : List UnitTree) → violations file types units ≡ [] → (body : Body) × (bodies units ≡ body ∷ []) }
+    ensures one { (file : ℕ) (types : List (List ℕ)) (units : List UnitTree) → violations file types units ≡ [] → (body : Body) × (bodies units ≡ body ∷ []) }
+    ensures home { (file : ℕ) (types : List (List ℕ)) (units : List UnitTree) (body : Body) → violations file types units ≡ [] → bodies units ≡ body ∷ [] → (home : Home) × (home_of units body ≡ Some home) }
 {}
 
 /// Worked examples of bodies and names.
