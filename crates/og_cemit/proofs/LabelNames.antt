@@ -13,7 +13,7 @@ use Rattle.og_csubset.specs.Fair.{is_label, is_labelled}
 use Rattle.og_csubset.proofs.Steady.{all_at}
 use Rattle.og_cemit.specs.Emitted.{hint, label_text}
 use Rattle.og_cemit.proofs.Names.{other_bytes}
-use Rattle.og_cemit.proofs.Labels.{decimal_digits}
+use Rattle.og_csubset.proofs.Digits.{decimal_digits}
 use Rattle.og_cemit.proofs.Tests.{all_append}
 use Rattle.og_names.proofs.Truths.{both_first as left_of, both_second as right_of, both_true as both, either_first as or_first, either_second as or_second, neither_true as neither}
 

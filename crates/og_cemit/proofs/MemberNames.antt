@@ -20,7 +20,7 @@ use Rattle.og_csubset.specs.Loading.{has_twice}
 use Rattle.og_csubset.specs.Fair.{names_of}
 use Rattle.og_cemit.specs.Structs.{leading, most_from, prefix_of, struct_word, by_name, by_number, numbered_from, are_clear, part_words, names_of_parts, words_of_sort, choice_word, word_at, word_in, part_member, part_members, members_of_sort, has_few_parts}
 use Rattle.og_cemit.proofs.Names.{equal_bytes, other_bytes}
-use Rattle.og_cemit.proofs.Labels.{decimal_digits}
+use Rattle.og_csubset.proofs.Digits.{decimal_digits}
 use Rattle.og_cemit.proofs.LabelNames.{digits_words}
 use Rattle.og_cemit.proofs.StructLoops.{grown}
 use Rattle.og_cemit.proofs.Tests.{false_by}

@@ -1,25 +1,26 @@
 -- What is seen of a machine is what the program shows.
-use Rattle.std.proofs.Common.{◌≡◌, ℕ, zero, suc, ◌≤◌, List, [], ◌∷◌, ◌++◌, false, Option, Some, None, map, refl, sym, ap, ◌∙◌, arith, append_assoc}
+use Rattle.std.proofs.Common.{◌≡◌, ℕ, zero, suc, ◌+◌, ◌≤◌, List, [], ◌∷◌, ◌++◌, false, Option, Some, None, drop, slice_get, refl, sym, ap, ◌∙◌, arith, append_assoc}
 use Rattle.std.proofs.lemmas.List.{append-nil}
 use Rattle.std.proofs.lemmas.Bool.{false≢true}
 use Rattle.og_model.specs.declared.Model.{Model}
-use Rattle.og_model.specs.declared.StimId.{StimId}
-use Rattle.og_model.specs.declared.StimId.TheVariants.{Start}
+use Rattle.og_types.specs.declared.Value.{Value}
+use Rattle.og_model.specs.declared.StimId.TheVariants.{Signal}
 use Rattle.og_model.specs.Shown as shown
-use Rattle.og_model.specs.Shown.{Shown, End, Rest, Fault, Stopped, Past, Stuck, is_past}
+use Rattle.og_model.specs.Shown.{Shown, End, Rest, Fault, Stopped, Past, Stuck, Stimulus, is_past}
 use Rattle.og_ir.specs.Arithmetic.{Trouble}
 use Rattle.og_ir.specs.Cells.{Cells}
 use Rattle.og_ir.specs.Steps.{Frame, Config, Running, Over, Broken, Ran, quiet, joined, exec}
 use Rattle.og_csubset.specs.declared.CProgram.{CProgram}
-use Rattle.og_csubset.specs.Kinds.{global_names, first_globals}
-use Rattle.og_csubset.specs.Reads.{end_of}
-use Rattle.og_csubset.specs.Run.{goes_on, shown_by, runs, c, c_machine}
+use Rattle.og_csubset.specs.Interface.{Field, inputs_of, signal_function}
+use Rattle.og_csubset.specs.Kinds.{place_in, function_names, global_names, first_globals}
+use Rattle.og_csubset.specs.Reads.{end_of, inputs_set}
+use Rattle.og_csubset.specs.Run.{goes_on, shown_by, runs, all_stimuli, entered, c, c_machine}
 use Rattle.og_cstatement.specs.Links.{step_of, cells_after}
 use Rattle.og_cstep.specs.declared.Advance.{Advance}
 use Rattle.og_cstep.specs.declared.Advance.TheVariants as advance
 use Rattle.og_cstep.specs.Answered.{id_of, answer_by, answer_at_end}
-use Rattle.og_cstep.specs.Machines.{Run, begins, stimulus_of, loaded}
-use Rattle.og_cstep.specs.WholeRuns.{Seen, seen_by, seen, seen_over}
+use Rattle.og_cstep.specs.Machines.{Run, begins, put_field, with_cells, loaded}
+use Rattle.og_cstep.specs.WholeRuns.{Seen, seen_by, seen, with_inputs, given, seen_over}
 use Rattle.og_cstep.proofs.Endings.{never_past}
 
 abbrev at : CProgram → Model → List Cells → Config → Option Advance → Run
@@ -104,22 +105,67 @@ running_is zero P M more rest same g f cs last front = refl
 running_is (suc n) P M more rest same g f cs last front =
     after_is n P M g front (step_of P M (Running g f cs)).events (step_of P M (Running g f cs)).config more rest same (running_is n P M more rest same)
 
-over_is : (n : ℕ) (xs : List StimId) (P : CProgram) (M : Model) (cells : List Cells) (config : Config) (last : Option Advance)
-    → seen_over (suc n) xs (at P M cells config last) ≡ runs (c_machine P M) (suc n) (map stimulus_of xs) cells
+-- ---- a stimulus is given
+
+none_set : (P : CProgram) (M : Model) (fields : List Field) (cells : List Cells) → inputs_set M (global_names P) fields [] cells ≡ cells
+none_set P M [] cells = refl
+none_set P M (f ∷ fields) cells = refl
+
+-- the parameter of one number, and then those behind it
+one_set : (P : CProgram) (M : Model) (fields : List Field) (i : ℕ) (v : Value) (values : List Value) (cells : List Cells) (config : Config) (last : Option Advance)
+    → inputs_set M (global_names P) (drop i fields) (v ∷ values) cells ≡ inputs_set M (global_names P) (drop (suc i) fields) values (put_field (at P M cells config last) (slice_get fields i) v)
+one_set P M [] zero v values cells config last = refl
+one_set P M [] (suc i) v values cells config last = refl
+one_set P M (f ∷ fields) zero v values cells config last = refl
+one_set P M (f ∷ fields) (suc i) v values cells config last = one_set P M fields i v values cells config last
+
+plus_one : (i : ℕ) → i + 1 ≡ suc i
+plus_one i = omega (arith)
+
+all_set : (P : CProgram) (M : Model) (k i : ℕ) (values : List Value) (cells : List Cells) (config : Config) (last : Option Advance)
+    → (later : Config) × (with_inputs k i values (at P M cells config last) ≡ at P M (inputs_set M (global_names P) (drop i (inputs_of M k)) values cells) later last)
+all_set P M k i [] cells config last = (config, ap (λ cs. at P M cs config last) (sym (none_set P M (drop i (inputs_of M k)) cells)))
+all_set P M k i (v ∷ values) cells config last =
+    let new = put_field (at P M cells config last) (slice_get (inputs_of M k) i) v in
+    let more = all_set P M k (i + 1) values new (with_cells new config) last in (
+      more.0,
+      more.1
+          ∙ ap (λ n. at P M (inputs_set M (global_names P) (drop n (inputs_of M k)) values new) more.0 last) (plus_one i)
+          ∙ ap (λ cs. at P M cs more.0 last) (sym (one_set P M (inputs_of M k) i v values cells config last)),
+    )
+
+-- so the run begins as that of the program
+given_is : (P : CProgram) (M : Model) (x : Option Stimulus) (cells : List Cells) (config : Config) (last : Option Advance)
+    → (set : List Cells) × (given x (at P M cells config last) ≡ at P M set ((c_machine P M).begin x cells) last)
+given_is P M None cells config last = (cells, refl)
+given_is P M (Some (shown.Signal k values)) cells config last =
+    let set = inputs_set M (global_names P) (inputs_of M k) values cells in
+    let all = all_set P M k 0 values cells config last in (
+      set,
+      ap (begins (Signal k)) all.1
+          ∙ ap (λ cs. at P M set (entered (place_in (signal_function M k) (function_names P)) cs) last) (none_set P M (inputs_of M k) set),
+    )
+given_is P M (Some (shown.Expiry k)) cells config last = (cells, refl)
+
+-- ---- all stimuli
+
+over_is : (n : ℕ) (xs : List (Option Stimulus)) (P : CProgram) (M : Model) (cells : List Cells) (config : Config) (last : Option Advance)
+    → seen_over (suc n) xs (at P M cells config last) ≡ runs (c_machine P M) (suc n) xs cells
 over_is n [] P M cells config last = refl
 over_is n (x ∷ xs) P M cells config last =
-    let begun = (begins x (at P M cells config last)).config in
-    after_is n P M cells [] (step_of P M begun).events (step_of P M begun).config (seen_over (suc n) xs) (runs (c_machine P M) (suc n) (map stimulus_of xs)) (over_is n xs P M)
-    (running_is n P M (seen_over (suc n) xs) (runs (c_machine P M) (suc n) (map stimulus_of xs)) (over_is n xs P M))
+    let begun = (c_machine P M).begin x cells in
+    let is = given_is P M x cells config last in
+    let more = seen_over (suc n) xs in
+    let rest = runs (c_machine P M) (suc n) xs in
+    ap (λ (run : Run). listed [] more (seen (suc n) run)) is.1
+    ∙ after_is n P M is.0 [] (step_of P M begun).events (step_of P M begun).config more rest (over_is n xs P M) (running_is n P M more rest (over_is n xs P M))
 
-pub seen_is : (steps : ℕ) (xs : List StimId) (P : CProgram) (M : Model) (cells : List Cells) (config : Config) (last : Option Advance) → 1 ≤ steps
-    → seen_over steps xs (at P M cells config last) ≡ runs (c_machine P M) steps (map stimulus_of xs) cells
+pub seen_is : (steps : ℕ) (xs : List (Option Stimulus)) (P : CProgram) (M : Model) (cells : List Cells) (config : Config) (last : Option Advance) → 1 ≤ steps
+    → seen_over steps xs (at P M cells config last) ≡ runs (c_machine P M) steps xs cells
 seen_is zero xs P M cells config last le = absurd (omega (arith, le))
 seen_is (suc n) xs P M cells config last le = over_is n xs P M cells config last
 
-pub whole_is : (steps : ℕ) (xs : List StimId) (stimuli : List shown.Stimulus) (P : CProgram) (M : Model) → 1 ≤ steps → map stimulus_of xs ≡ map Some stimuli
-    → seen_over steps (Start ∷ xs) (loaded P M) ≡ c P M stimuli steps
+pub whole_is : (steps : ℕ) (stimuli : List Stimulus) (P : CProgram) (M : Model) → 1 ≤ steps
+    → seen_over steps (all_stimuli stimuli) (loaded P M) ≡ c P M stimuli steps
 unfolding c
-whole_is steps xs stimuli P M le are =
-    seen_is steps (Start ∷ xs) P M (first_globals P) (Over (first_globals P)) None le
-    ∙ ap (λ l. runs (c_machine P M) steps (None ∷ l) (first_globals P)) are
+whole_is steps stimuli P M le = seen_is steps (all_stimuli stimuli) P M (first_globals P) (Over (first_globals P)) None le

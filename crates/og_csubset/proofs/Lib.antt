@@ -33,3 +33,4 @@ pub mod OneAnswer
 pub mod WrongExamples
 pub mod FairParts
 pub mod FlatTexts
+pub mod Digits

@@ -1,10 +1,11 @@
 -- No name of the code stands for two things.
-use Rattle.std.proofs.Common.{◌≡◌, ℕ, zero, suc, ◌+◌, ◌<◌, List, [], ◌∷◌, ◌++◌, Bool, true, false, cond, not, ◌||◌, map, length, slice_get, append-nil, Option, Some, refl, sym, ap, ◌∙◌, arith}
-use Rattle.std.specs.Prelude.{codes, unwrap_or}
-use Rattle.std.specs.List.{list_all, list_any}
+use Rattle.std.proofs.Common.{◌≡◌, ℕ, zero, suc, ◌+◌, ◌<◌, List, [], ◌∷◌, ◌++◌, Bool, true, false, cond, not, ◌||◌, map, length, slice_get, append-nil, append_assoc, Option, Some, None, refl, sym, ap, ◌∙◌, arith}
+use Rattle.std.specs.Prelude.{codes, decimal, unwrap_or}
+use Rattle.std.specs.List.{AllByRecursion, list_all, list_any}
 use Rattle.std.specs.Str.{bytes_eq}
 use Rattle.std.specs.Cmp.Lexicographic.{bytes_decides}
-use Rattle.std.proofs.lemmas.Bool.{ltb-true, eq-eqb}
+use Rattle.std.proofs.lemmas.Bool.{false≢true, ltb-true, eq-eqb}
+use Rattle.std.proofs.lemmas.List.{map-append}
 use Rattle.og_names.specs.declared.NameId.{NameId}
 use Rattle.og_names.specs.declared.Word.{Word}
 use Rattle.og_names.specs.Folding.{place_of}
@@ -12,22 +13,34 @@ use Rattle.og_types.specs.Table.{all_differ, same_name}
 use Rattle.og_model.specs.declared.Model.{Model}
 use Rattle.og_model.specs.declared.Signal.{Signal}
 use Rattle.og_model.specs.Resolved.{is_known, is_declared_signal}
+use Rattle.og_model.specs.Rules.{has_double_underscore, is_plain_text, is_plain_name}
 use Rattle.og_ir.specs.declared.FlatFn.{FlatFn}
-use Rattle.og_csubset.specs.Interface.{name_of}
+use Rattle.og_csubset.specs.Interface.{Field, name_of}
+use Rattle.og_csubset.specs.FlatRun.{slot_names}
 use Rattle.og_csubset.specs.Kinds.{is_in}
 use Rattle.og_csubset.specs.Loading.{has_twice}
 use Rattle.og_csubset.specs.Fair.{names_of}
 use Rattle.og_flatten.specs.FlatCode.{event_word, signal_function, signal_functions}
-use Rattle.og_flatten.specs.Slots.{control_of}
-use Rattle.og_flatten.proofs.PlainSlots.{plain_code}
+use Rattle.og_flatten.specs.Slots.{slots_of, control_of}
+use Rattle.og_flatten.proofs.PlainSlots.{field_names, def_names, names_of_fields, input_fields, output_fields, parameter_fields, plain_code}
+use Rattle.og_flatten.proofs.Parameters.{HasFew, few_parameters}
+use Rattle.og_flatten.proofs.ParameterNames.{other_name, parameter, parameter_underscores, NamesDiffer, not_parameter, parameters_once}
 use Rattle.og_flatten.proofs.Made.{IsMade}
-use Rattle.og_flatten.proofs.Tests.{neither, all_by, any_append}
+use Rattle.og_flatten.proofs.Tests.{neither, all_by, any_append, front_all}
 use Rattle.og_names.proofs.Truths.{both_first as left_of, both_second as right_of, not_true}
 
 -- ---- tests that fail
 
 twice_one : (name : List ℕ) (names : List (List ℕ)) → is_in name names ≡ false → has_twice names ≡ false → has_twice (name ∷ names) ≡ false
 twice_one name names new twice = ap (λ b. b || has_twice names) new ∙ twice
+
+fewer : (name : List ℕ) (xs ys : List (List ℕ)) → is_in name (xs ++ ys) ≡ false → is_in name xs ≡ false
+fewer name [] ys new = refl
+fewer name (x ∷ xs) ys new = let both : (bytes_eq name x ≡ false) × (is_in name (xs ++ ys) ≡ false) = neither _ _ new in ap (λ b. b || is_in name xs) both.0 ∙ fewer name xs ys both.1
+
+once_front : (xs ys : List (List ℕ)) → has_twice (xs ++ ys) ≡ false → has_twice xs ≡ false
+once_front [] ys once = refl
+once_front (x ∷ xs) ys once = let both : (is_in x (xs ++ ys) ≡ false) × (has_twice (xs ++ ys) ≡ false) = neither _ _ once in twice_one x xs (fewer x xs ys both.0) (once_front xs ys both.1)
 
 -- ---- names of signals
 
@@ -68,6 +81,23 @@ module _ (model : Model) (made : IsMade model) where
           let same : same_name a b ≡ true = eq-eqb a.0 b.0 (one_number a b known other ((bytes_decides (name_of model a) (name_of model b)).0 is)) in
           sym same ∙ differ
       go false is = refl
+
+  -- names of signals that differ are spelt differently
+  spelt_differently : (s : Signal) → is_known model s.name ≡ true → (signals : List Signal) → are_known model signals ≡ true → list_any (same_name s.name) (ids_of signals) ≡ false
+      → AllByRecursion (λ (t : Signal). name_of model s.name ≡ name_of model t.name → ⊥) signals
+  spelt_differently s known [] all new = tt
+  spelt_differently s known (t ∷ signals) all new =
+      let apart : (same_name s.name t.name ≡ false) × (list_any (same_name s.name) (ids_of signals) ≡ false) = neither _ _ new in (
+        λ e. false≢true (sym apart.0 ∙ eq-eqb s.name.0 t.name.0 (one_number s.name t.name known (left_of _ _ all) e)),
+        spelt_differently s known signals (right_of _ _ all) apart.1,
+      )
+
+  names_differ : (signals : List Signal) → are_known model signals ≡ true → all_differ same_name (ids_of signals) ≡ true → (has : Signal → Bool) (prefix : List ℕ) → NamesDiffer model has prefix signals
+  names_differ [] all differ has prefix = tt
+  names_differ (s ∷ signals) all differ has prefix = (
+    spelt_differently s (left_of _ _ all) signals (right_of _ _ all) (not_true _ (left_of _ _ differ)),
+    names_differ signals (right_of _ _ all) (right_of _ _ differ) has prefix,
+  )
 
   -- ---- no other is the same
 
@@ -144,33 +174,111 @@ module _ (model : Model) (made : IsMade model) where
       ∙ sym (ap (λ (ts : List NameId). all_differ same_name (ids_of model.signals ++ ts)) made.basic.no_timers)
       ∙ made.formed.rules.signals_differ
 
-  -- a name that begins as no event and as no function of a signal does
-  free : (name : List ℕ) → ((w : List ℕ) → bytes_eq name (codes "o_" ++ w) ≡ false) → ((w : List ℕ) → bytes_eq name (codes "on_" ++ w) ≡ false)
-      → bytes_eq name (codes "transition") ≡ false → bytes_eq name (codes "start") ≡ false
-      → is_in name (names_of_events model model.signals ++ all_functions model) ≡ false
-  free name event function transition start =
-      any_append (bytes_eq name) (names_of_events model model.signals) (all_functions model)
+  -- a name of a signal has no two underscores together, so no parameter is an event
+  plain_bytes : (id : NameId) → is_plain_name model id ≡ true → has_double_underscore (name_of model id) ≡ false
+  plain_bytes id plain = by (slice_get model.names id.0) plain
+    where
+      by : (o : Option (List ℕ)) → is_plain_text o ≡ true → has_double_underscore (unwrap_or o []) ≡ false
+      by None is = refl
+      by (Some text) is = not_true (has_double_underscore text) is
+
+  not_event : (s : Signal) (m : ℕ) (t : Signal) → is_plain_name model t.name ≡ true → bytes_eq (parameter (codes "o_" ++ name_of model s.name) m) (codes "o_" ++ name_of model t.name) ≡ false
+  not_event s m t plain =
+      other_name (parameter (name_of model s.name) m) (name_of model t.name)
+      (λ e. false≢true (sym (plain_bytes t.name plain) ∙ sym (ap has_double_underscore e) ∙ parameter_underscores (name_of model s.name) m))
+
+  no_event : (s : Signal) (m : ℕ) (signals : List Signal) → list_all (is_plain_name model) (ids_of signals) ≡ true → is_in (parameter (codes "o_" ++ name_of model s.name) m) (names_of_events model signals) ≡ false
+  no_event s m [] plain = refl
+  no_event s m (t ∷ signals) plain =
+      ap (λ b. b || is_in (parameter (codes "o_" ++ name_of model s.name) m) (names_of_events model signals)) (not_event s m t (left_of _ _ plain))
+      ∙ no_event s m signals (right_of _ _ plain)
+
+  plain_signals : list_all (is_plain_name model) (ids_of model.signals) ≡ true
+  plain_signals = front_all (is_plain_name model) (ids_of model.signals) model.timers made.formed.rules.plain_signals
+
+  abbrev inputs : List (List ℕ)
+  inputs = field_names (input_fields model)
+
+  abbrev outputs : List (List ℕ)
+  outputs = field_names (output_fields model)
+
+  -- events and functions, and the outputs' parameters before them
+  abbrev events_and_functions : List (List ℕ)
+  events_and_functions = names_of_events model model.signals ++ all_functions model
+
+  abbrev behind_inputs : List (List ℕ)
+  behind_inputs = outputs ++ events_and_functions
+
+  abbrev behind_control : List (List ℕ)
+  behind_control = inputs ++ behind_inputs
+
+  abbrev Other : List ℕ → List ℕ → Type 0
+  Other name prefix = (w : List ℕ) → bytes_eq name (prefix ++ w) ≡ false
+
+  -- a name that begins as no parameter, no event and no function of a signal does
+  free : (name : List ℕ) → Other name (codes "i_") → Other name (codes "o_") → Other name (codes "on_")
+      → bytes_eq name (codes "transition") ≡ false → bytes_eq name (codes "start") ≡ false → is_in name behind_control ≡ false
+  free name input event function transition start =
+      any_append (bytes_eq name) inputs behind_inputs (not_parameter model (λ (s : Signal). s.incoming) (codes "i_") name input model.signals)
+      (any_append (bytes_eq name) outputs events_and_functions (not_parameter model (λ (s : Signal). true) (codes "o_") name event model.signals)
+      (any_append (bytes_eq name) (names_of_events model model.signals) (all_functions model)
       (not_o name event model.signals)
       (ap (λ b. b || (bytes_eq name (codes "start") || is_in name (names_of_functions (signal_functions (control_of model) model 0 model.signals)))) transition
-      ∙ ap (λ b. b || is_in name (names_of_functions (signal_functions (control_of model) model 0 model.signals))) start ∙ not_on name function 0 model.signals)
+      ∙ ap (λ b. b || is_in name (names_of_functions (signal_functions (control_of model) model 0 model.signals))) start ∙ not_on name function 0 model.signals)))
 
-  pub apart : not (has_twice (names_of (plain_code model))) ≡ true
-  apart =
+  few : AllByRecursion HasFew model.signals
+  few = few_parameters model made.formed.rules.supported_parameters made.formed.rules.few_cells
+
+  events_once : has_twice events_and_functions ≡ false
+  events_once =
       let functions : List (List ℕ) = names_of_functions (signal_functions (control_of model) model 0 model.signals) in
-      let names : List (List ℕ) = names_of_events model model.signals ++ all_functions model in
       let one : has_twice (codes "start" ∷ functions) ≡ false =
       twice_one (codes "start") functions (not_on (codes "start") (λ w. refl) 0 model.signals) (functions_apart 0 model.signals known_signals different_signals) in
       let two : has_twice (all_functions model) ≡ false =
       twice_one (codes "transition") (codes "start" ∷ functions) (not_on (codes "transition") (λ w. refl) 0 model.signals) one in
-      let rest : has_twice names ≡ false =
-      events_apart (all_functions model) (λ w. not_on (codes "o_" ++ w) (λ v. refl) 0 model.signals) two model.signals known_signals different_signals in
-      ap not
+      events_apart (all_functions model) (λ w. not_on (codes "o_" ++ w) (λ v. refl) 0 model.signals) two model.signals known_signals different_signals
+
+  outputs_once : has_twice behind_inputs ≡ false
+  outputs_once =
+      parameters_once model (λ (s : Signal). true) (codes "o_") events_and_functions events_once
+      (λ s m.
+      any_append (bytes_eq (parameter (codes "o_" ++ name_of model s.name) m)) (names_of_events model model.signals) (all_functions model)
+      (no_event s m model.signals plain_signals) (not_on (parameter (codes "o_" ++ name_of model s.name) m) (λ v. refl) 0 model.signals))
+      model.signals (names_differ model.signals known_signals different_signals (λ (s : Signal). true) (codes "o_")) few
+
+  inputs_once : has_twice behind_control ≡ false
+  inputs_once =
+      parameters_once model (λ (s : Signal). s.incoming) (codes "i_") behind_inputs outputs_once
+      (λ s m.
+      let name : List ℕ = parameter (codes "i_" ++ name_of model s.name) m in
+      any_append (bytes_eq name) outputs events_and_functions (not_parameter model (λ (t : Signal). true) (codes "o_") name (λ w. refl) model.signals)
+      (any_append (bytes_eq name) (names_of_events model model.signals) (all_functions model) (not_o name (λ w. refl) model.signals) (not_on name (λ v. refl) 0 model.signals)))
+      model.signals (names_differ model.signals known_signals different_signals (λ (s : Signal). s.incoming) (codes "i_")) few
+
+  -- the names behind those of the control
+  names_behind : (def_names (slots_of (parameter_fields model)) ++ names_of_events model model.signals) ++ all_functions model ≡ behind_control
+  names_behind =
+      append_assoc (def_names (slots_of (parameter_fields model))) (names_of_events model model.signals) (all_functions model)
+      ∙ ap (λ ns. ns ++ events_and_functions) (names_of_fields (parameter_fields model) ∙ map-append (λ (f : Field). f.name) (input_fields model) (output_fields model))
+      ∙ append_assoc inputs outputs events_and_functions
+
+  pub apart : not (has_twice (names_of (plain_code model))) ≡ true
+  apart =
+      let names = behind_control in
+      ap (λ ns. not (has_twice (codes "r" ∷ codes "stopped" ∷ codes "f_kind" ∷ codes "f_file" ∷ codes "f_line" ∷ codes "f_column" ∷ codes "chosen" ∷ ns))) names_behind
+      ∙ ap not
       (twice_one (codes "r") (codes "stopped" ∷ codes "f_kind" ∷ codes "f_file" ∷ codes "f_line" ∷ codes "f_column" ∷ codes "chosen" ∷ names)
-      (free (codes "r") (λ w. refl) (λ w. refl) refl refl)
+      (free (codes "r") (λ w. refl) (λ w. refl) (λ w. refl) refl refl)
       (twice_one (codes "stopped") (codes "f_kind" ∷ codes "f_file" ∷ codes "f_line" ∷ codes "f_column" ∷ codes "chosen" ∷ names)
-      (free (codes "stopped") (λ w. refl) (λ w. refl) refl refl)
-      (twice_one (codes "f_kind") (codes "f_file" ∷ codes "f_line" ∷ codes "f_column" ∷ codes "chosen" ∷ names) (free (codes "f_kind") (λ w. refl) (λ w. refl) refl refl)
-      (twice_one (codes "f_file") (codes "f_line" ∷ codes "f_column" ∷ codes "chosen" ∷ names) (free (codes "f_file") (λ w. refl) (λ w. refl) refl refl)
-      (twice_one (codes "f_line") (codes "f_column" ∷ codes "chosen" ∷ names) (free (codes "f_line") (λ w. refl) (λ w. refl) refl refl)
-      (twice_one (codes "f_column") (codes "chosen" ∷ names) (free (codes "f_column") (λ w. refl) (λ w. refl) refl refl)
-      (twice_one (codes "chosen") names (free (codes "chosen") (λ w. refl) (λ w. refl) refl refl) rest)))))))
+      (free (codes "stopped") (λ w. refl) (λ w. refl) (λ w. refl) refl refl)
+      (twice_one (codes "f_kind") (codes "f_file" ∷ codes "f_line" ∷ codes "f_column" ∷ codes "chosen" ∷ names) (free (codes "f_kind") (λ w. refl) (λ w. refl) (λ w. refl) refl refl)
+      (twice_one (codes "f_file") (codes "f_line" ∷ codes "f_column" ∷ codes "chosen" ∷ names) (free (codes "f_file") (λ w. refl) (λ w. refl) (λ w. refl) refl refl)
+      (twice_one (codes "f_line") (codes "f_column" ∷ codes "chosen" ∷ names) (free (codes "f_line") (λ w. refl) (λ w. refl) (λ w. refl) refl refl)
+      (twice_one (codes "f_column") (codes "chosen" ∷ names) (free (codes "f_column") (λ w. refl) (λ w. refl) (λ w. refl) refl refl)
+      (twice_one (codes "chosen") names (free (codes "chosen") (λ w. refl) (λ w. refl) (λ w. refl) refl refl) inputs_once)))))))
+
+  -- so no slot has the name of another
+  pub slots_apart : has_twice (slot_names (plain_code model)) ≡ false
+  slots_apart =
+      once_front (slot_names (plain_code model)) (names_of_events model model.signals)
+      (once_front (slot_names (plain_code model) ++ names_of_events model model.signals) (all_functions model) (not_true _ apart))

@@ -1,10 +1,13 @@
 -- What a well-formed model of basic states is made of: bodies that send signals and then enter a state, states with inputs
--- alone, one start, and signals without parameters.
-use Rattle.std.proofs.Common.{◌≡◌, ℕ, zero, suc, ◌<◌, Bool, true, nat_lt, is_none, List, [], ◌∷◌, length, slice_get, Option, Some, None, refl, ap, subst, ◌∙◌}
+-- alone, and one start.
+use Rattle.std.proofs.Common.{◌≡◌, ℕ, zero, suc, ◌<◌, Bool, true, nat_lt, nat_eq, is_none, List, [], ◌∷◌, length, slice_get, Option, Some, None, refl, ap, subst, ◌∙◌, arith}
 use Rattle.std.specs.List.{list_all}
 use Rattle.std.proofs.lemmas.Bool.{false≢true, ltb-true}
+use Rattle.std.proofs.lemmas.Bool.Decides.{nat_tests}
 use Rattle.std.proofs.lemmas.Option.{none-some}
+use Rattle.og_types.specs.declared.TypeId.{TypeId}
 use Rattle.og_types.specs.Table.{is_empty}
+use Rattle.og_model.specs.declared.Signal.{Signal}
 use Rattle.og_model.specs.declared.Branch.{Branch}
 use Rattle.og_model.specs.declared.Block.{Block, size-Block}
 use Rattle.og_model.specs.declared.Step.{Step}
@@ -24,8 +27,10 @@ use Rattle.og_model.specs.declared.Model.{Model}
 use Rattle.og_model.specs.Configuration.{Kind}
 use Rattle.og_model.specs.Forms.{UsesBasicStatesOnly, is_output, is_plain_step, is_next, is_plain_ending, is_plain_body, is_plain_trigger, is_basic, is_plain_state, is_one_start}
 use Rattle.og_model.specs.Resolved.{IsResolved, Surroundings, in_states, is_signal, if_any, is_known, is_action, is_step, is_end, is_ending, is_block_within, is_body, is_handler, is_state, is_start, is_level, is_scope_within}
+use Rattle.og_model.specs.Rules.{states_differ, are_plain_labels, parameters_of, sends_all_in_action, sends_all_within, sends_all, keeps_in_state, keeps_within}
 use Rattle.og_model.specs.WellSorted.{is_place}
 use Rattle.og_model.specs.WellFormed.{IsWellFormed}
+use Rattle.og_csubset.specs.Interface as interface
 use Rattle.og_flatten.specs.FlatCode.{bodies_of, states_of, starts_of, steps_of, end_of}
 use Rattle.og_names.proofs.Truths.{both_first as left_of, both_second as right_of}
 
@@ -62,11 +67,12 @@ level_bodies M l = right_of (list_all (is_state M (in_states (states_of M)) (len
 
 -- ---- bodies
 
--- an output of a signal that is there, without values
+-- an output of a signal that is there, without values, and so without parameters
 pub record StepIs (M : Model) (x : Step) : Type 0 where
   pub signal : ℕ
   pub is : out-Action x.action ≡ Actions.Output signal []
   pub there : signal < length M.signals
+  pub silent : interface.signal_sorts M signal ≡ []
 
 abbrev pub StepsAre : Model → List Step → Type 0
 StepsAre M [] = Unit {0}
@@ -89,28 +95,42 @@ none_is : {A : Type 0} (o : Option A) → is_none o ≡ true → o ≡ None
 none_is None h = refl
 none_is (Some x) h = absurd (false≢true h)
 
-step_by : (M : Model) (w : Surroundings) (inner : Block → Bool) (x : Step) (action : Action-F Action Block Branch Step) → out-Action x.action ≡ action → is_output action ≡ true → is_action M w inner action ≡ true → StepIs M x
-step_by M w inner x (Actions.Output k vs) e out known = record {
+same_from : (m n : ℕ) → nat_eq m n ≡ true → m ≡ n
+same_from m n h = grind (arith, nat_tests)
+
+-- as many parameters as there are values
+no_parameters : {A : Type 0} (vs : List A) (o : Option Signal) → is_empty vs ≡ true → nat_eq (length vs) (parameters_of o) ≡ true → interface.sorts_of o ≡ []
+no_parameters [] None out sends = refl
+no_parameters [] (Some s) out sends = by s.sorts sends
+  where
+    by : (sorts : List TypeId) → nat_eq 0 (length sorts) ≡ true → sorts ≡ []
+    by [] same = refl
+    by (t ∷ sorts) same = let none = same_from 0 (length (t ∷ sorts)) same in absurd (omega (arith, none))
+no_parameters (v ∷ vs) o out sends = absurd (false≢true out)
+
+step_by : (M : Model) (w : Surroundings) (inner sends : Block → Bool) (x : Step) (action : Action-F Action Block Branch Step) → out-Action x.action ≡ action → is_output action ≡ true → is_action M w inner action ≡ true → sends_all_in_action M sends action ≡ true → StepIs M x
+step_by M w inner sends x (Actions.Output k vs) e out known all = record {
   signal = k;
   is = e ∙ ap (Actions.Output k) (empty_is vs out);
   there = ltb-true k (length M.signals) (left_of (is_signal M k) _ known);
+  silent = no_parameters vs (slice_get M.signals k) out all;
 }
-step_by M w inner x Actions.Nothing e out known = absurd (false≢true out)
-step_by M w inner x (Actions.Assign target value) e out known = absurd (false≢true out)
-step_by M w inner x (Actions.SetTimer t d) e out known = absurd (false≢true out)
-step_by M w inner x (Actions.ResetTimer t) e out known = absurd (false≢true out)
-step_by M w inner x (Actions.Append target value) e out known = absurd (false≢true out)
-step_by M w inner x (Actions.Call p args r) e out known = absurd (false≢true out)
-step_by M w inner x (Actions.Decide q branches other) e out known = absurd (false≢true out)
+step_by M w inner sends x Actions.Nothing e out known all = absurd (false≢true out)
+step_by M w inner sends x (Actions.Assign target value) e out known all = absurd (false≢true out)
+step_by M w inner sends x (Actions.SetTimer t d) e out known all = absurd (false≢true out)
+step_by M w inner sends x (Actions.ResetTimer t) e out known all = absurd (false≢true out)
+step_by M w inner sends x (Actions.Append target value) e out known all = absurd (false≢true out)
+step_by M w inner sends x (Actions.Call p args r) e out known all = absurd (false≢true out)
+step_by M w inner sends x (Actions.Decide q branches other) e out known all = absurd (false≢true out)
 
-steps_by : (M : Model) (w : Surroundings) (inner : Block → Bool) (xs : List Step) → list_all is_plain_step xs ≡ true → list_all (is_step M w inner) xs ≡ true → StepsAre M xs
-steps_by M w inner [] plain known = tt
-steps_by M w inner (x ∷ xs) plain known =
+steps_by : (M : Model) (w : Surroundings) (inner sends : Block → Bool) (xs : List Step) → list_all is_plain_step xs ≡ true → list_all (is_step M w inner) xs ≡ true → list_all (λ (x : Step). sends_all_in_action M sends (out-Action x.action)) xs ≡ true → StepsAre M xs
+steps_by M w inner sends [] plain known all = tt
+steps_by M w inner sends (x ∷ xs) plain known all =
     let p = left_of (is_plain_step x) (list_all is_plain_step xs) plain in
     let q = left_of (is_step M w inner x) (list_all (is_step M w inner) xs) known in (
-      step_by M w inner x (out-Action x.action) refl (right_of (is_none x.label) _ p)
-          (right_of (is_place x.place) _ (right_of (if_any (is_known M) x.label) _ q)),
-      steps_by M w inner xs (right_of (is_plain_step x) _ plain) (right_of (is_step M w inner x) _ known),
+      step_by M w inner sends x (out-Action x.action) refl (right_of (is_none x.label) _ p)
+          (right_of (is_place x.place) _ (right_of (if_any (is_known M) x.label) _ q)) (left_of _ _ all),
+      steps_by M w inner sends xs (right_of (is_plain_step x) _ plain) (right_of (is_step M w inner x) _ known) (right_of _ _ all),
     )
 
 record EndIs (M : Model) (states : List StateDef) (o : Option Ending) : Type 0 where
@@ -139,15 +159,15 @@ end_by M states (Some e) plain known =
     kind_by M states (Some e) e e.kind refl refl (right_of (is_none e.label) _ plain)
     (right_of (is_place e.place) _ (right_of (if_any (is_known M) e.label) _ known))
 
-body_by : (depth : ℕ) (M : Model) (b : Body) → is_plain_body b ≡ true → is_block_within depth M (in_states (states_of M)) b.block ≡ true → BodyIs M b
-body_by zero M b plain known = absurd (false≢true known)
-body_by (suc depth) M b plain known =
+body_by : (depth : ℕ) (M : Model) (b : Body) → is_plain_body b ≡ true → is_block_within depth M (in_states (states_of M)) b.block ≡ true → sends_all_within depth M b.block ≡ true → BodyIs M b
+body_by zero M b plain known all = absurd (false≢true known)
+body_by (suc depth) M b plain known all =
     let w = in_states (states_of M) in
     let inner = is_block_within depth M w in
     let parts = right_of (is_none b.label) _ plain in
     let end = end_by M (states_of M) (end_of b) (right_of (list_all is_plain_step (steps_of b)) _ parts) (right_of (list_all (is_step M w inner) (steps_of b)) _ known) in
     record {
-      steps = steps_by M w inner (steps_of b) (left_of (list_all is_plain_step (steps_of b)) _ parts) (left_of (list_all (is_step M w inner) (steps_of b)) _ known);
+      steps = steps_by M w inner (sends_all_within depth M) (steps_of b) (left_of (list_all is_plain_step (steps_of b)) _ parts) (left_of (list_all (is_step M w inner) (steps_of b)) _ known) all;
       ending = end.ending;
       ends = end.ends;
       state = end.state;
@@ -155,11 +175,19 @@ body_by (suc depth) M b plain known =
       there = end.there;
     }
 
+-- each body sends as many values as its signals have parameters
+bodies_send : (depth : ℕ) (M : Model) → keeps_within depth M M.root ≡ true → list_all (sends_all M) (bodies_of M) ≡ true
+bodies_send zero M keeps = absurd (false≢true keeps)
+bodies_send (suc depth) M keeps =
+    right_of (list_all (are_plain_labels M) (bodies_of M)) _
+    (right_of (list_all (keeps_in_state M (keeps_within depth M)) (states_of M)) _ (right_of (states_differ (states_of M)) _ keeps))
+
 pub body_is : (M : Model) → IsWellFormed M → UsesBasicStatesOnly M → (k : ℕ) (b : Body) → slice_get (bodies_of M) k ≡ Some b → BodyIs M b
 body_is M formed basic k b at =
     let known = every (is_body M (in_states (states_of M))) (bodies_of M) k b (level_bodies M (level M formed.resolved)) at in
     body_by (size-Block b.block) M b (every is_plain_body (bodies_of M) k b basic.bodies at)
     (right_of (if_any (is_known M) b.label) _ (right_of (is_place b.place) _ known))
+    (every (sends_all M) (bodies_of M) k b (bodies_send (size-Scope M.root) M formed.rules.scopes) at)
 
 -- ---- states
 

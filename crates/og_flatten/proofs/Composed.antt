@@ -17,7 +17,7 @@ use Rattle.og_flatten.proofs.Standings.{IsBasic}
 use Rattle.og_flatten.proofs.Behaviour.{safe, runs}
 use Rattle.og_flatten.proofs.OwnUnits.{own_units_of}
 use Rattle.og_flatten.proofs.FairCode.{fair}
-use Rattle.og_flatten.proofs.Instructions.{cells}
+use Rattle.og_flatten.proofs.Instructions.{whole}
 
 is_basic : (model : Model) → IsMade model → IsBasic model
 is_basic model made = record { formed = made.formed; basic = made.basic; fair = fair model made }
@@ -25,7 +25,7 @@ is_basic model made = record { formed = made.formed; basic = made.basic; fair = 
 pub is_code : (model : Model) → IsMade model → IsCodeOf model (code_of model)
 is_code model made =
     let is = is_basic model made in
-    record { fair = fair model made; cells = cells model made.basic; safe = safe model is; runs = runs model is }
+    record { fair = fair model made; whole = whole model; safe = safe model is; runs = runs model is }
 
 -- the same of what was made
 pub made_is_code : (model : Model) (rs : List Region) (result : Result Ir NoMemory) → IsWellFormed model → UsesBasicStatesOnly model → IsTable model.names → rs ≡ regions model

@@ -5,7 +5,6 @@ use Rattle.std.specs.List.{list_all}
 use Rattle.std.proofs.lemmas.Bool.{and_from, le-leb}
 use Rattle.og_model.specs.declared.Model.{Model}
 use Rattle.og_model.specs.declared.Signal.{Signal}
-use Rattle.og_model.specs.Forms.{UsesBasicStatesOnly}
 use Rattle.og_model.specs.declared.Handler.{Handler}
 use Rattle.og_model.specs.declared.StateDef.{StateDef}
 use Rattle.og_model.specs.declared.Body.{Body}
@@ -19,7 +18,7 @@ use Rattle.og_ir.specs.declared.FlatFn.{FlatFn}
 use Rattle.og_ir.specs.declared.Instr.{Instr}
 use Rattle.og_ir.specs.declared.Instr.TheVariants as instr
 use Rattle.og_ir.specs.declared.Case.{Case}
-use Rattle.og_ir.specs.CellsOnly.{is_plain_instruction, UsesCellsOnly}
+use Rattle.og_ir.specs.WholeSlots.{is_plain_instruction, UsesWholeSlots}
 use Rattle.og_csubset.specs.Tokens.{Token, name, keyword, mark, switch_, default_, open_brace, close_brace, open_round, close_round, semicolon, colon, equals}
 use Rattle.og_csubset.specs.Nesting.{nesting_from, nesting}
 use Rattle.og_csubset.specs.Plain.{plain_constant, each, jump}
@@ -30,7 +29,7 @@ use Rattle.og_flatten.specs.FlatCode.{bodies_of, states_of, starts_of, steps_of,
 use Rattle.og_flatten.specs.declared.code.Control.{Control}
 use Rattle.og_flatten.specs.Slots.{control_of}
 use Rattle.og_flatten.proofs.Computing.{instructions}
-use Rattle.og_flatten.proofs.PlainSlots.{plain_code, by_slots}
+use Rattle.og_flatten.proofs.PlainSlots.{plain_code}
 use Rattle.og_flatten.proofs.Tests.{all_append, all_always, all_map}
 
 -- a test that each form of an instruction passes
@@ -144,6 +143,6 @@ plain_forms = record {
   back = refl;
 }
 
--- each slot is one cell
-pub cells : (model : Model) → UsesBasicStatesOnly model → UsesCellsOnly (code_of model)
-cells model basic = by_slots model basic UsesCellsOnly (record { slots = refl; code = of_functions is_plain_instruction plain_forms model })
+-- each slot is read and set whole
+pub whole : (model : Model) → UsesWholeSlots (code_of model)
+whole model = record { code = of_functions is_plain_instruction plain_forms model }

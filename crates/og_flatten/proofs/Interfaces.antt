@@ -1,6 +1,6 @@
 -- How the code of a model of basic states is reached from outside, and what its slots say: the functions of its stimuli, the
 -- events that it shows, and the state in which it rests.
-use Rattle.std.proofs.Common.{◌≡◌, ℕ, zero, suc, ◌+◌, ◌<◌, Bool, true, false, not, cond, if◌then◌else◌, List, [], ◌∷◌, ◌++◌, map, length, slice_get, Some, codes, refl, sym, ap, subst, ◌∙◌, arith, IsTrue}
+use Rattle.std.proofs.Common.{◌≡◌, ℕ, zero, suc, ◌+◌, ◌<◌, Bool, true, false, not, cond, if◌then◌else◌, List, [], ◌∷◌, ◌++◌, map, length, slice_get, Option, Some, codes, refl, sym, ap, subst, ◌∙◌, arith, IsTrue}
 use Rattle.std.specs.Option.{option_map}
 use Rattle.std.specs.List.{range_with_len}
 use Rattle.std.specs.Str.{bytes_eq}
@@ -8,7 +8,6 @@ use Rattle.std.proofs.lemmas.Slice.Eq.{bytes_eq-Decides}
 use Rattle.std.proofs.lemmas.Bool.{false≢true}
 use Rattle.std.proofs.lemmas.Option.{none-some, slice_get-map}
 use Rattle.og_names.specs.declared.Word.{Word}
-use Rattle.og_types.specs.Table.{is_empty}
 use Rattle.og_model.specs.declared.Model.{Model}
 use Rattle.og_model.specs.declared.Signal.{Signal}
 use Rattle.og_model.specs.declared.EventId.{EventId}
@@ -16,7 +15,6 @@ use Rattle.og_model.specs.declared.EventId.TheVariants as event
 use Rattle.og_model.specs.declared.StateDef.{StateDef}
 use Rattle.og_model.specs.RegionTypes.{Leaf}
 use Rattle.og_model.specs.Regions.{Insides, state_insides, states_insides}
-use Rattle.og_model.specs.Forms.{UsesBasicStatesOnly}
 use Rattle.og_model.specs.Shown as Shows
 use Rattle.og_ir.specs.declared.FlatFn.{FlatFn}
 use Rattle.og_ir.specs.Cells.{◌>>=◌, Cells}
@@ -26,9 +24,8 @@ use Rattle.og_csubset.specs.Interface as interface
 use Rattle.og_csubset.specs.Fair.{Fair, names_of}
 use Rattle.og_csubset.specs.FlatRun.{slot_names, flat_function_names, flat_event}
 use Rattle.og_csubset.specs.Reads.{Globals, event_shown, event_named, event_of, values_of}
-use Rattle.og_flatten.specs.Slots.{control_of}
+use Rattle.og_flatten.specs.Slots.{inputs_of, control_of}
 use Rattle.og_flatten.specs.FlatCode.{code_of, event_word, signal_function, function_if_incoming, signal_functions}
-use Rattle.og_flatten.proofs.Basic.{every, empty_is}
 use Rattle.og_names.proofs.Truths.{neither_first as or_left, neither_second as or_right, neither_true as both_false, same_value as some_is}
 
 -- ---- names that differ
@@ -197,11 +194,6 @@ event_at M k lt =
     none_more : (k : ℕ) → 0 + k ≡ k
     none_more k = omega (arith)
 
--- no values are shown with an output of a signal without parameters
-no_outputs : (M : Model) → UsesBasicStatesOnly M → (k : ℕ) (s : Signal) → slice_get M.signals k ≡ Some s → interface.signal_sorts M k ≡ []
-no_outputs M basic k s at =
-    ap interface.sorts_of at ∙ empty_is s.sorts (every (λ (x : Signal). is_empty x.sorts) M.signals k s basic.no_parameters at)
-
 abbrev SignalThere : Model → ℕ → Type 0
 SignalThere M k = (s : Signal) × (slice_get M.signals k ≡ Some s)
 
@@ -210,9 +202,10 @@ there [] k lt = absurd (omega (arith, lt))
 there (x ∷ xs) zero lt = (x, refl)
 there (x ∷ xs) (suc k) lt = there xs k (omega (arith, lt))
 
-pub emits : (M : Model) → UsesBasicStatesOnly M → Fair (code_of M) M → (k : ℕ) → k < length M.signals → (slots : List Cells) → flat_event M (code_of M) k slots ≡ Some (Shows.Output k [])
+-- an output of a signal without parameters is shown without values
+pub emits : (M : Model) → Fair (code_of M) M → (k : ℕ) → k < length M.signals → interface.signal_sorts M k ≡ [] → (slots : List Cells) → flat_event M (code_of M) k slots ≡ Some (Shows.Output k [])
 unfolding event_of
-emits M basic fair k lt slots =
+emits M fair k lt silent slots =
     let found = there M.signals k lt in
     let s = found.0 in
     let globals : Globals = record { names = slot_names (code_of M); cells = slots } in
@@ -223,11 +216,13 @@ emits M basic fair k lt slots =
     (slice_get-map (event_word M) M.signals k ∙ ap (option_map (event_word M)) found.1)
     ∙ ap (λ bytes. event_named M bytes (interface.events_of M) >>= event_shown M globals) name_is
     ∙ ap (λ o. o >>= event_shown M globals) (named M (interface.events_of M) k (event.Output k) once (event_at M k lt))
-    ∙ ap (λ types. values_of M globals (interface.parameters_from 1 (codes "o_" ++ interface.signal_name M k) types) >>= λ vs. Some (Shows.Output k vs)) (no_outputs M basic k s found.1)
+    ∙ ap (λ types. values_of M globals (interface.parameters_from 1 (codes "o_" ++ interface.signal_name M k) types) >>= λ vs. Some (Shows.Output k vs)) silent
 
--- the parameters of a signal have no slots
-pub no_inputs : (M : Model) → UsesBasicStatesOnly M → (k : ℕ) (s : Signal) → slice_get M.signals k ≡ Some s → interface.inputs_of M k ≡ []
-no_inputs M basic k s at = ap (interface.parameters_from 1 (codes "i_" ++ interface.signal_name M k)) (no_outputs M basic k s at)
+-- the fields of an incoming signal's parameters
+pub inputs_at : (M : Model) (k : ℕ) (s : Signal) → slice_get M.signals k ≡ Some s → s.incoming ≡ true → interface.inputs_of M k ≡ inputs_of M s
+inputs_at M k s at incoming =
+    ap (λ (o : Option Signal). interface.parameters_from 1 (codes "i_" ++ interface.name_if M (interface.signal_id o)) (interface.sorts_of o)) at
+    ∙ ap (λ b. cond b (interface.parameters_from 1 (codes "i_" ++ interface.name_of M s.name) s.sorts) []) (sym incoming)
 
 -- ---- the state in which the process rests
 

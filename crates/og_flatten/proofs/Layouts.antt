@@ -1,7 +1,7 @@
 -- No slot of the layout stands for two things, and each slot of the layout has the name of the interface.
 use Rattle.std.proofs.Common.{◌≡◌, ℕ, zero, suc, ◌+◌, ◌≤◌, ◌<◌, false, List, [], ◌∷◌, ◌++◌, map, length, slice_get, Some, ◌⊎◌, inl, inr, refl, sym, ap, subst, ◌∙◌, arith, length-append}
 use Rattle.std.specs.List.{range_with_len}
-use Rattle.std.proofs.lemmas.List.{append_assoc, length-map, map-append}
+use Rattle.std.proofs.lemmas.List.{append_assoc, append-nil, length-map, map-append}
 use Rattle.og_model.specs.declared.Model.{Model}
 use Rattle.og_model.specs.Regions.{regions}
 use Rattle.og_ir.specs.declared.SlotDef.{SlotDef}
@@ -11,10 +11,11 @@ use Rattle.og_csubset.specs.Loading.{has_twice}
 use Rattle.og_layout.specs.Layout.{IsNew, Differ}
 use Rattle.og_layout.specs.Layout as layouts
 use Rattle.og_layout.specs.Named.{AllNamed, IsNamed}
-use Rattle.og_flatten.specs.Slots.{slots_of, control_fields, duration_fields, parameter_slots, layout_by, layout_of, control_of}
+use Rattle.og_flatten.specs.Slots.{slot_of, slots_of, control_fields, duration_field, duration_fields, parameter_slots, layout_by, layout_of, control_of}
 use Rattle.og_flatten.specs.FlatCode.{code_of}
 use Rattle.og_flatten.proofs.Places.{get_behind, length_more}
 use Rattle.og_flatten.proofs.Interfaces.{place_of}
+use Rattle.og_flatten.proofs.PlainSlots.{field_names, def_names, names_of_fields, parameter_fields, parameters_are}
 
 -- ---- no slot twice
 
@@ -102,16 +103,6 @@ chosen_at M = ap Some (five_more (length (regions M)))
 
 -- ---- names
 
-abbrev field_names : List Field → List (List ℕ)
-field_names fields = map (λ (f : Field). f.name) fields
-
-abbrev def_names : List SlotDef → List (List ℕ)
-def_names defs = map (λ (d : SlotDef). d.name.bytes) defs
-
-names_of_fields : (fields : List Field) → def_names (slots_of fields) ≡ field_names fields
-names_of_fields [] = refl
-names_of_fields (f ∷ fields) = ap (λ names. f.name ∷ names) (names_of_fields fields)
-
 -- fields whose names stand one after the other
 named_block : (fields : List Field) (before after names : List (List ℕ)) → names ≡ before ++ (field_names fields ++ after) → has_twice names ≡ false → AllNamed names fields (range_with_len (length before) (length fields))
 named_block [] before after names is once = tt
@@ -180,3 +171,44 @@ module _ (M : Model) where
         stopped = control.0;
         fault = control.1.0;
       }
+
+  -- ---- parameters
+
+  abbrev four_parts : List (List ℕ)
+  four_parts = three_parts ++ field_names (timer_fields M)
+
+  long_four : length four_parts ≡ length (regions M) + 6 + length M.variables + length M.timers
+  long_four =
+      length-append three_parts (field_names (timer_fields M)) ∙ ap (λ n. n + length (field_names (timer_fields M))) long_three
+      ∙ ap (λ n. length (regions M) + 6 + length M.variables + n) (length-map (timer_fields M) (λ (f : Field). f.name) ∙ length-map M.timers (timer_field M))
+
+  abbrev five_parts : List (List ℕ)
+  five_parts = four_parts ++ field_names (duration_fields M)
+
+  long_five : length five_parts ≡ length (regions M) + 6 + length M.variables + length M.timers + length M.timers
+  long_five =
+      length-append four_parts (field_names (duration_fields M)) ∙ ap (λ n. n + length (field_names (duration_fields M))) long_four
+      ∙ ap (λ n. length (regions M) + 6 + length M.variables + length M.timers + n) (length-map (duration_fields M) (λ (f : Field). f.name) ∙ length-map M.timers (duration_field M))
+
+  rest_is : rest ≡ field_names (duration_fields M) ++ field_names (parameter_fields M)
+  rest_is =
+      map-append (λ (d : SlotDef). d.name.bytes) (slots_of (duration_fields M)) (parameter_slots M)
+      ∙ ap (λ ns. ns ++ def_names (parameter_slots M)) (names_of_fields (duration_fields M))
+      ∙ ap (λ ns. field_names (duration_fields M) ++ ns) (ap def_names (parameters_are M) ∙ names_of_fields (parameter_fields M))
+
+  parts_are : slot_names (code_of M) ≡ five_parts ++ (field_names (parameter_fields M) ++ [])
+  parts_are =
+      names_are
+      ∙ sym (append_assoc (field_names numbered) (field_names control_fields) (field_names (variable_fields M) ++ (field_names (timer_fields M) ++ rest)))
+      ∙ sym (append_assoc two_parts (field_names (variable_fields M)) (field_names (timer_fields M) ++ rest))
+      ∙ sym (append_assoc three_parts (field_names (timer_fields M)) rest)
+      ∙ ap (λ ns. four_parts ++ ns) rest_is
+      ∙ sym (append_assoc four_parts (field_names (duration_fields M)) (field_names (parameter_fields M)))
+      ∙ ap (λ ns. five_parts ++ ns) (sym (append-nil (field_names (parameter_fields M))))
+
+  as_many : length (parameter_fields M) ≡ length (parameter_slots M)
+  as_many = sym (ap length (parameters_are M) ∙ length-map (parameter_fields M) slot_of)
+
+  pub parameters_are_named : has_twice (slot_names (code_of M)) ≡ false → AllNamed (slot_names (code_of M)) (parameter_fields M) (layout_of M).parameters
+  parameters_are_named once =
+      block_at (parameter_fields M) five_parts [] (slot_names (code_of M)) (length (regions M) + 6 + length M.variables + length M.timers + length M.timers) (length (parameter_slots M)) parts_are once long_five as_many

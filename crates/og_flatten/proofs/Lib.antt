@@ -3,6 +3,8 @@ pub mod Made
 pub mod Tests
 pub mod Parts
 pub mod PlainSlots
+pub mod Parameters
+pub mod ParameterNames
 pub mod Right
 pub mod Instructions
 pub mod Shapes
@@ -15,6 +17,7 @@ pub mod Basic
 pub mod Interfaces
 pub mod Layouts
 pub mod SingleSteps
+pub mod Sending
 pub mod Standings
 pub mod Meaning
 pub mod Transitions

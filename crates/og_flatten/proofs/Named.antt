@@ -1,6 +1,6 @@
 -- The names and the labels of the code are words, and its names are names of C.
 use Rattle.std.proofs.Common.{◌≡◌, ℕ, zero, suc, ◌+◌, ◌*◌, ◌<◌, List, [], ◌∷◌, ◌++◌, Bool, true, false, cond, map, length, slice_get, Option, Some, None, refl, arith, length-append, eq-eqb}
-use Rattle.std.specs.Prelude.{codes, unwrap_or, slice_set}
+use Rattle.std.specs.Prelude.{codes, decimal, unwrap_or, slice_set}
 use Rattle.std.specs.List.{list_all}
 use Rattle.std.specs.Char.{is_ascii_alphabetic}
 use Rattle.std.proofs.lemmas.Bool.{and_from, ltb-true}
@@ -18,14 +18,18 @@ use Rattle.og_model.specs.declared.Body.{Body}
 use Rattle.og_model.specs.declared.Step.{Step}
 use Rattle.og_model.specs.Resolved as model_names
 use Rattle.og_model.specs.Resolved.{is_known, is_name_byte}
+use Rattle.og_types.specs.declared.TypeId.{TypeId}
 use Rattle.og_ir.specs.declared.FlatFn.{FlatFn}
-use Rattle.og_csubset.specs.Tokens.{is_letter, is_word_byte, is_word, is_name}
-use Rattle.og_csubset.specs.Interface.{name_of, name_if, signal_id}
+use Rattle.og_ir.specs.declared.SlotDef.{SlotDef}
+use Rattle.og_csubset.specs.Tokens.{is_letter, is_digit, is_word_byte, is_word, is_name}
+use Rattle.og_csubset.specs.Interface.{Field, name_of, name_if, signal_id}
 use Rattle.og_csubset.specs.Fair.{is_label, is_labelled, names_of}
 use Rattle.og_csubset.specs.FlatRun.{flat_function_names}
+use Rattle.og_csubset.proofs.Digits.{decimal_digits}
 use Rattle.og_flatten.specs.FlatCode.{bodies_of, states_of, steps_of, handler_in, word, no_label, trigger_name, handler_label, with_handlers, with_states, start_words, body_labels, labels_of_body, word_at, labels_of_bodies, entering_labels, end_label, transition_labels, handled_labels, choices_labels, signal_labels, length_of_bodies, transition_function, handled_code, choices_code, transition_code, signal_code, event_word, signal_function, signal_functions, functions_of}
-use Rattle.og_flatten.specs.Slots.{control_of}
-use Rattle.og_flatten.proofs.PlainSlots.{plain_code}
+use Rattle.og_flatten.specs.Slots.{slot_of, slots_of, control_of}
+use Rattle.og_flatten.proofs.PlainSlots.{def_names, parameter_fields, plain_code}
+use Rattle.og_flatten.proofs.Parameters.{typed_fields}
 use Rattle.og_flatten.proofs.Made.{IsMade}
 use Rattle.og_flatten.proofs.Tests.{all_append, all_always, all_map, all_by}
 use Rattle.og_flatten.proofs.Parts.{parts}
@@ -95,12 +99,34 @@ functions_named model made k [] = refl
 functions_named model made k (s ∷ signals) =
     if_named model made k s s.incoming (signal_functions (control_of model) model (k + 1) signals) (functions_named model made (k + 1) signals)
 
+-- the names of parameters
+digit_byte : (b : ℕ) → is_digit b ≡ true → is_word_byte b ≡ true
+digit_byte b is = grind (arith, nat_tests)
+
+parameter_bytes : (model : Model) → IsMade model → (id : NameId) (m : ℕ) → list_all is_word_byte (name_of model id ++ codes "__" ++ decimal m) ≡ true
+parameter_bytes model made id m =
+    all_append is_word_byte (name_of model id ++ codes "__") (decimal m) (all_append is_word_byte (name_of model id) (codes "__") (name_bytes model made id) refl)
+    (all_by is_digit is_word_byte digit_byte (decimal m) (decimal_digits m))
+
+no_test : (sorts : List TypeId) → list_all (λ (t : TypeId). true) sorts ≡ true
+no_test sorts = all_always (λ (t : TypeId). true) (λ t. refl) sorts
+
+parameters_named : (model : Model) → IsMade model → list_all is_name (def_names (slots_of (parameter_fields model))) ≡ true
+parameters_named model made =
+    all_map is_name (λ (d : SlotDef). d.name.bytes) (slots_of (parameter_fields model))
+    (all_map (λ (d : SlotDef). is_name d.name.bytes) slot_of (parameter_fields model)
+    (typed_fields (λ (f : Field). is_name f.name) (λ (t : TypeId). true) model
+    (λ s m t is. and_from _ _ (parameter_bytes model made s.name m) refl) (λ s m t is. and_from _ _ (parameter_bytes model made s.name m) refl)
+    (all_always (λ (s : Signal). list_all (λ (t : TypeId). true) s.sorts) (λ s. no_test s.sorts) model.signals)))
+
 pub named : (model : Model) → IsMade model → list_all is_name (names_of (plain_code model)) ≡ true
 named model made =
-    all_append is_name (map (λ (e : Word). e.bytes) (map (event_word model) model.signals)) (flat_function_names (plain_code model))
+    all_append is_name (def_names (slots_of (parameter_fields model)) ++ map (λ (e : Word). e.bytes) (map (event_word model) model.signals)) (flat_function_names (plain_code model))
+    (all_append is_name (def_names (slots_of (parameter_fields model))) (map (λ (e : Word). e.bytes) (map (event_word model) model.signals))
+    (parameters_named model made)
     (all_map is_name (λ (e : Word). e.bytes) (map (event_word model) model.signals)
     (all_map (λ (e : Word). is_name e.bytes) (event_word model) model.signals
-    (all_always (λ (s : Signal). is_name (event_word model s).bytes) (λ s. event_named model made s.name) model.signals)))
+    (all_always (λ (s : Signal). is_name (event_word model s).bytes) (λ s. event_named model made s.name) model.signals))))
     (all_map is_name (λ (f : FlatFn). f.name.bytes) (signal_functions (control_of model) model 0 model.signals) (functions_named model made 0 model.signals))
 
 -- ---- labels

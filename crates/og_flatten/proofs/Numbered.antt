@@ -1,5 +1,5 @@
 -- The events and the functions of signals have the interface's names.
-use Rattle.std.proofs.Common.{◌≡◌, ℕ, suc, ◌+◌, List, [], ◌∷◌, ◌++◌, Bool, true, false, cond, ◌||◌, map, length, slice_get, append-nil, Option, refl, sym, ap, ◌∙◌, arith}
+use Rattle.std.proofs.Common.{◌≡◌, ℕ, suc, ◌+◌, List, [], ◌∷◌, ◌++◌, Bool, true, false, cond, ◌||◌, map, length, slice_get, append-nil, Option, Some, refl, sym, ap, ◌∙◌, arith}
 use Rattle.std.specs.Prelude.{codes, flat_map, if◌then◌else◌}
 use Rattle.std.specs.List.{list_all, range_with_len}
 use Rattle.std.specs.Str.{bytes_eq}
@@ -32,9 +32,12 @@ all_signals model = record { at = λ j. ap (slice_get model.signals) (omega arit
 pub the_others : (model : Model) (k : ℕ) (s : Signal) (signals : List Signal) → From model k (s ∷ signals) → From model (k + 1) signals
 the_others model k s signals from = record { at = λ j. ap (slice_get model.signals) (omega arith) ∙ from.at (suc j) }
 
+pub at_first : (model : Model) (k : ℕ) (s : Signal) (signals : List Signal) → From model k (s ∷ signals) → slice_get model.signals k ≡ Some s
+at_first model k s signals from = ap (slice_get model.signals) (omega arith) ∙ from.at 0
+
 pub name_at : (model : Model) (k : ℕ) (s : Signal) (signals : List Signal) → From model k (s ∷ signals) → signal_name model k ≡ name_of model s.name
 name_at model k s signals from =
-    ap (λ (o : Option Signal). name_if model (signal_id o)) (ap (slice_get model.signals) (omega arith) ∙ from.at 0)
+    ap (λ (o : Option Signal). name_if model (signal_id o)) (at_first model k s signals from)
 
 -- ---- events
 

@@ -41,7 +41,7 @@ use Rattle.og_flatten.proofs.Basic.{StepsAre, body_is, StateIs, state_is, start_
 use Rattle.og_flatten.proofs.Meaning.{start_body_is, handler_is, found_of}
 use Rattle.og_flatten.proofs.Transitions.{frame, machine_of}
 use Rattle.og_flatten.proofs.Interfaces.{start_placed, signal_at, SignalAt, emits, there}
-use Rattle.og_flatten.proofs.Simulation.{none_more, leads_to, body_placed, state_placed, Rests, Halts, Holds, WhereCarried, starts_with, takes_with, IsSent, sent_by, handler_there, choice_placed, end_placed, signal_begins, no_timer}
+use Rattle.og_flatten.proofs.Simulation.{none_more, leads_to, body_placed, state_placed, Rests, Halts, Holds, WhereCarried, starts_with, takes_with, IsSent, sent_by, handler_there, choice_placed, end_placed, given_slots, given_stands, signal_begins, no_timer}
 use Rattle.og_flatten.proofs.Paths.{is_a_step, Starts, Runs, over_runs, step_runs, own_units}
 
 -- ---- where a run ends, it ends once
@@ -101,7 +101,7 @@ module _ (M : Model) (is : IsBasic M) where
       let shown = Shows.Output step_is.signal [] ∷ [] in
       let there : List Cells → Config = λ slots. Running slots (frame 0 (p + 1)) callers in
       onward K 0 p callers (transition_function (control_of M) M) (instr.Emit step_is.signal) (Some (A_step number i)) shown K there (costs_of_steps number (i + 1) xs ++ An_ending number ∷ more) (served M p (Some (A_step number i)) serving.0) refl (code.0 ∙ ap (λ a. Some (action_at (end_place M) a)) step_is.is)
-      (same_slots M K (frame 0 p) callers (instr.Emit step_is.signal) shown there (λ slots. ap (λ o. showing o slots (frame 0 p) callers) (emits M is.basic is.fair step_is.signal step_is.there slots)))
+      (same_slots M K (frame 0 p) callers (instr.Emit step_is.signal) shown there (λ slots. ap (λ o. showing o slots (frame 0 p) callers) (emits M is.fair step_is.signal step_is.there step_is.silent slots)))
       (λ e slots. first_begins (p + 1) number (i + 1) xs serving.1)
       (body_runs end e k is_end next K callers more rest xs (p + 1) number (i + 1) are.1 code.1 serving.1)
 
@@ -218,8 +218,8 @@ module _ (M : Model) (is : IsBasic M) where
       (subst (λ o. Runs M ((machine_of M).begin (Some (Shows.Signal k vs)) slots) (costs_of M o))
       (sym (ap (option_map (λ (x : Found). x.handler.body)) (handler_is M here.state here.def k vs here.there st_is) ∙ found_body (handler_in k here.def.handlers)))
       (subst (λ c. Runs M c (costs_of M (body_of (handler_in k here.def.handlers)))) (sym (signal_begins M is k vs sent slots))
-      (signal_runs k vs sent here.state here.def here.there st_is (handler_in k here.def.handlers) refl s slots
-      (subst (λ b. StandsAs M (marked b) s slots) here.is rests.holds))))
+      (signal_runs k vs sent here.state here.def here.there st_is (handler_in k here.def.handlers) refl s (given_slots M k vs slots)
+      (given_stands M is k vs sent (marked (At here.state Basic)) s slots (subst (λ b. StandsAs M (marked b) s slots) here.is rests.holds)))))
   stimulus_runs a s slots rests (Shows.Expiry t) given = absurd (no_timer M is t given)
 
   -- ---- every beginning

@@ -1,9 +1,9 @@
--- The slots of a model of basic states: the number of its one region, and those that steer the code.
+-- The slots of a model of basic states: the number of its one region, those that steer the code, and those of the parameters of
+-- signals.
 use Rattle.std.proofs.Common.{◌≡◌, List, [], ◌∷◌, ◌++◌, Bool, true, false, cond, map, length, sym, ap, subst, refl, ◌∙◌}
 use Rattle.std.specs.Prelude.{ℕ, suc, zero, codes, flat_map}
 use Rattle.std.specs.List.{list_all}
-use Rattle.og_types.specs.Table.{is_empty}
-use Rattle.og_types.specs.declared.TypeId.{TypeId}
+use Rattle.std.proofs.lemmas.List.{map-append}
 use Rattle.og_names.specs.declared.NameId.{NameId}
 use Rattle.og_model.specs.declared.Model.{Model}
 use Rattle.og_model.specs.declared.Signal.{Signal}
@@ -18,9 +18,9 @@ use Rattle.og_model.specs.Regions.{Insides, region_under, kind_insides, states_i
 use Rattle.og_model.specs.Forms.{UsesBasicStatesOnly, is_basic, is_plain_state}
 use Rattle.og_ir.specs.declared.Ir.{Ir}
 use Rattle.og_ir.specs.declared.SlotDef.{SlotDef}
-use Rattle.og_csubset.specs.Interface.{name_of, number_field, parameters_from, region_field, variable_field, timer_field, variable_fields, timer_fields}
+use Rattle.og_csubset.specs.Interface.{Field, name_of, number_field, parameters_from, region_field, variable_field, timer_field, variable_fields, timer_fields}
 use Rattle.og_flatten.specs.declared.code.Control.{Control}
-use Rattle.og_flatten.specs.Slots.{slots_of, control_fields, duration_field, duration_fields, inputs_of, outputs_of, parameter_slots, other_slots, control_behind, control_of}
+use Rattle.og_flatten.specs.Slots.{slot_of, slots_of, control_fields, duration_field, duration_fields, inputs_of, outputs_of, parameter_slots, other_slots, control_behind, control_of}
 use Rattle.og_flatten.specs.FlatCode.{event_word, functions_of, code_of}
 use Rattle.og_names.proofs.Truths.{both_first as left_of, both_second as right_of}
 
@@ -50,57 +50,69 @@ process model = record { path = []; leaves = (insides_of model.root).leaves }
 pub one_region : (model : Model) → UsesBasicStatesOnly model → regions model ≡ process model ∷ []
 one_region model basic = ap (λ (more : List Region). process model ∷ more) (no_regions_inside model basic)
 
--- ---- no data
+-- ---- parameters
 
-pub empty : {A : Type 0} (xs : List A) → is_empty xs ≡ true → xs ≡ []
-empty [] is = refl
-empty (x ∷ xs) is = cc
+abbrev pub field_names : List Field → List (List ℕ)
+field_names fields = map (λ (f : Field). f.name) fields
 
-no_input : (model : Model) (b : Bool) (prefix : List ℕ) (sorts : List TypeId) → sorts ≡ [] → slots_of (cond b (parameters_from 1 prefix sorts) []) ≡ []
-no_input model true prefix sorts none = ap (λ ts. slots_of (parameters_from 1 prefix ts)) none
-no_input model false prefix sorts none = refl
+abbrev pub def_names : List SlotDef → List (List ℕ)
+def_names defs = map (λ (d : SlotDef). d.name.bytes) defs
 
-no_inputs : (model : Model) (signals : List Signal) → list_all (λ (s : Signal). is_empty s.sorts) signals ≡ true → flat_map (λ (s : Signal). slots_of (inputs_of model s)) signals ≡ []
-no_inputs model [] all = refl
-no_inputs model (s ∷ signals) all =
-    ap (λ xs. xs ++ flat_map (λ (t : Signal). slots_of (inputs_of model t)) signals)
-    (no_input model s.incoming (codes "i_" ++ name_of model s.name) s.sorts (empty s.sorts (left_of _ _ all)))
-    ∙ no_inputs model signals (right_of _ _ all)
+pub names_of_fields : (fields : List Field) → def_names (slots_of fields) ≡ field_names fields
+names_of_fields [] = refl
+names_of_fields (f ∷ fields) = ap (λ names. f.name ∷ names) (names_of_fields fields)
 
-no_outputs : (model : Model) (signals : List Signal) → list_all (λ (s : Signal). is_empty s.sorts) signals ≡ true → flat_map (λ (s : Signal). slots_of (outputs_of model s)) signals ≡ []
-no_outputs model [] all = refl
-no_outputs model (s ∷ signals) all =
-    ap (λ ts. slots_of (parameters_from 1 (codes "o_" ++ name_of model s.name) ts) ++ flat_map (λ (t : Signal). slots_of (outputs_of model t)) signals)
-    (empty s.sorts (left_of _ _ all))
-    ∙ no_outputs model signals (right_of _ _ all)
+-- the fields of a signal's parameters under this prefix, where it has them
+abbrev pub fields_by : (Signal → Bool) → List ℕ → Model → Signal → List Field
+fields_by has prefix model s = cond (has s) (parameters_from 1 (prefix ++ name_of model s.name) s.sorts) []
 
-pub no_parameter_slots : (model : Model) → UsesBasicStatesOnly model → parameter_slots model ≡ []
-no_parameter_slots model basic =
-    ap (λ xs. xs ++ flat_map (λ (t : Signal). slots_of (outputs_of model t)) model.signals) (no_inputs model model.signals basic.no_parameters)
-    ∙ no_outputs model model.signals basic.no_parameters
+-- those of the incoming signals, and those of the outputs of all
+abbrev pub input_fields : Model → List Field
+input_fields model = flat_map (inputs_of model) model.signals
 
-no_data : (model : Model) → UsesBasicStatesOnly model → slots_of (variable_fields model) ++ (slots_of (timer_fields model) ++ (slots_of (duration_fields model) ++ parameter_slots model)) ≡ []
-no_data model basic =
+abbrev pub output_fields : Model → List Field
+output_fields model = flat_map (outputs_of model) model.signals
+
+abbrev pub parameter_fields : Model → List Field
+parameter_fields model = input_fields model ++ output_fields model
+
+slots_of_each : (f : Signal → List Field) (signals : List Signal) → flat_map (λ s. slots_of (f s)) signals ≡ slots_of (flat_map f signals)
+slots_of_each f [] = refl
+slots_of_each f (s ∷ signals) =
+    ap (λ ds. slots_of (f s) ++ ds) (slots_of_each f signals) ∙ sym (map-append slot_of (f s) (flat_map f signals))
+
+pub parameters_are : (model : Model) → parameter_slots model ≡ slots_of (parameter_fields model)
+parameters_are model =
+    ap (λ ds. ds ++ flat_map (λ (s : Signal). slots_of (outputs_of model s)) model.signals) (slots_of_each (inputs_of model) model.signals)
+    ∙ ap (λ ds. slots_of (input_fields model) ++ ds) (slots_of_each (outputs_of model) model.signals)
+    ∙ sym (map-append slot_of (input_fields model) (output_fields model))
+
+only_parameters : (model : Model) → UsesBasicStatesOnly model → slots_of (variable_fields model) ++ (slots_of (timer_fields model) ++ (slots_of (duration_fields model) ++ parameter_slots model)) ≡ slots_of (parameter_fields model)
+only_parameters model basic =
     ap (λ (vs : List Variable). slots_of (map (variable_field model) vs) ++ (slots_of (timer_fields model) ++ (slots_of (duration_fields model) ++ parameter_slots model))) basic.no_variables
     ∙ ap (λ (ts : List NameId). slots_of (map (timer_field model) ts) ++ (slots_of (map (duration_field model) ts) ++ parameter_slots model)) basic.no_timers
-    ∙ no_parameter_slots model basic
+    ∙ parameters_are model
 
 -- ---- the slots
 
-abbrev pub plain_slots : List SlotDef
-plain_slots = slots_of (number_field (codes "r") ∷ control_fields)
+-- the number of the one region, what steers the code, and the parameters
+abbrev pub plain_fields : Model → List Field
+plain_fields model = number_field (codes "r") ∷ (control_fields ++ parameter_fields model)
 
-pub slots_are : (model : Model) → UsesBasicStatesOnly model → (code_of model).slots ≡ plain_slots
+abbrev pub plain_slots : Model → List SlotDef
+plain_slots model = slots_of (plain_fields model)
+
+pub slots_are : (model : Model) → UsesBasicStatesOnly model → (code_of model).slots ≡ plain_slots model
 slots_are model basic =
     ap (λ rs. slots_of (map (region_field model) rs) ++ other_slots model) (one_region model basic)
-    ∙ ap (λ more. slots_of (number_field (codes "r") ∷ []) ++ (slots_of control_fields ++ more)) (no_data model basic)
+    ∙ ap (λ more. slots_of (number_field (codes "r") ∷ []) ++ (slots_of control_fields ++ more)) (only_parameters model basic)
 
 -- the code of the model with other slots
 abbrev pub with_slots : Model → List SlotDef → Ir
 with_slots model ss = record { slots = ss; events = map (event_word model) model.signals; functions = functions_of (control_of model) model }
 
 abbrev pub plain_code : Model → Ir
-plain_code model = with_slots model plain_slots
+plain_code model = with_slots model (plain_slots model)
 
 -- what holds of the code with these slots holds of the code
 pub by_slots : (model : Model) → UsesBasicStatesOnly model → (P : Ir → Type 0) → P (plain_code model) → P (code_of model)

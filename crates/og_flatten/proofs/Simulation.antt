@@ -49,16 +49,17 @@ use Rattle.og_follow.proofs.Carrying.{passes_on, passes_then, then_passes, only_
 use Rattle.og_follow.proofs.Answering.{carried_is_answered}
 use Rattle.og_layout.specs.Layout.{Mark, Between, Inactive, Leaf, NoLeaf, numbers_of, marked}
 use Rattle.og_layout.proofs.AtRest.{rest_is_read}
-use Rattle.og_flatten.specs.Slots.{control_of, layout_of}
+use Rattle.og_flatten.specs.Slots.{inputs_of, control_of, layout_of}
 use Rattle.og_flatten.proofs.Layouts.{slots_are_named}
 use Rattle.og_flatten.proofs.SingleSteps.{Holding, StandsAs, Chose, Leads, same_slots, sets_region, sets_chosen, table_of_chosen, table_of_region, not_stopped}
+use Rattle.og_flatten.proofs.Sending.{values_stand, inputs_beside}
 use Rattle.og_flatten.proofs.Standings.{IsBasic, leaf_is, HasOne, one_at, one_inactive, entered_number, left_number, first_stands, RestsIn, in_state, is_active}
 use Rattle.og_flatten.proofs.Places.{HasAt, BodyAt, bodies_placed, entering_placed, length_of_all, ChoiceAt, handled_placed, not_handled, has_at}
 use Rattle.og_flatten.proofs.Serving.{serves, serves_nothing, body_serves, state_serves, served}
 use Rattle.og_flatten.proofs.Basic.{body_is, StateIs, state_is, start_is}
 use Rattle.og_flatten.proofs.Meaning.{whole, start_is_whole, step_takes, step_discards, paths_are}
 use Rattle.og_flatten.proofs.Transitions.{frame, machine_of, Here, Left, from_to, whole_places, whole_ways, done≢out, coded, goes, returns, carries_whole}
-use Rattle.og_flatten.proofs.Interfaces.{start_placed, SignalAt, signal_at, emits, no_inputs, once_before, not_true, there}
+use Rattle.og_flatten.proofs.Interfaces.{start_placed, SignalAt, signal_at, emits, inputs_at, once_before, not_true, there}
 use Rattle.og_names.proofs.Truths.{both_first as left_of, both_second as right_of, same_value as some_is}
 
 pub none_more : (k : ℕ) → 0 + k ≡ k
@@ -223,7 +224,7 @@ chooses M is pace is_pace mark one f p g body origin lt at code other before pas
           (passes_on code_of_it before [] (Here (StandsAs M mark) f p []) [] (Here K 0 a back) (before_choice f p) (at_choice f p) passes
           (choice_passes M pace is_pace mark f p g body b placed at code other) (choice_apart f p other))
           (then_passes code_of_it fuel whole_one (Here K 0 a back) (only (Done (At k Basic)) (Here L 0 (e + 1) back)) (only (Done (At k Basic)) (Left L)) Z (whole_ways a end e)
-          (carries_whole M pace is_pace (emits M is.basic is.fair) mark back a body b origin found.1 b_is entered.0 entered.1 (state_is M is.formed is.basic k entered.0 entered.1) (entered_number M is mark one k entered.0 entered.1) placed.code_there (body_serves M body b a found.1 (placed.leads 0)) entering fuel)
+          (carries_whole M pace is_pace (emits M is.fair) mark back a body b origin found.1 b_is entered.0 entered.1 (state_is M is.formed is.basic k entered.0 entered.1) (entered_number M is mark one k entered.0 entered.1) placed.code_there (body_serves M body b a found.1 (placed.leads 0)) entering fuel)
           (only_passes code_of_it (Done (At k Basic)) (Here L 0 (e + 1) back) (Left L) Z
           (passes_on code_of_it (Here L 0 (e + 1) back) [] (Here L f (p + 1 + 1) []) [] (Left L) (place 0 (e + 1)) (place f (p + 1 + 1))
           (goes M pace is_pace L 0 (e + 1) back L f (p + 1 + 1) [] (transition_function (control_of M) M) instr.Back (served M (e + 1) None (state_serves M k entered.0 entered.1).1.0) refl entering.1.0 (same_slots M L (frame 0 (e + 1)) back instr.Back [] (λ slots. Running slots (frame f (p + 1 + 1)) []) (λ slots. refl)))
@@ -273,7 +274,7 @@ starts_with M is pace is_pace P holds =
 
 -- ---- stimuli
 
--- an incoming signal without values
+-- an incoming signal
 pub record IsSent (M : Model) (k : ℕ) (vs : List Value) : Type 0 where
   pub signal : Signals.Signal
   pub at : slice_get M.signals k ≡ Some signal
@@ -378,20 +379,32 @@ takes_by M is pace is_pace k vs sent placed st d at st_is (Some h) has =
           same_doing (coded M pace is_pace) fuel (whole M (Some h.body) (Some st)) (step M (At st Basic) (Shows.Signal k vs)) before (Returned (Rests M) Halts (machine_of M)) taken.ways (λ n s. step_takes M st d k vs n s h at st_is has facts.0) (taken.carries fuel);
     }
 
--- the function of a signal is called
-pub signal_begins : (M : Model) (is : IsBasic M) (k : ℕ) (vs : List Value) (sent : IsSent M k vs) (slots : List Cells) → (machine_of M).begin (Some (Shows.Signal k vs)) slots ≡ Running slots (frame (signal_at M is.fair k sent.signal sent.at sent.incoming).function 0) []
-signal_begins M is k vs sent slots =
-    let placed = signal_at M is.fair k sent.signal sent.at sent.incoming in
-    ap (λ fields. entered (place_in (interface.signal_function M k) (flat_function_names (code_of M))) (inputs_set M (slot_names (code_of M)) fields vs slots)) (no_inputs M is.basic k sent.signal sent.at)
-    ∙ ap (λ o. entered o slots) placed.placed
+slots_once : (M : Model) → Fair (code_of M) M → has_twice (slot_names (code_of M)) ≡ false
+slots_once M fair =
+    once_before (slot_names (code_of M)) (map (λ (e : Word). e.bytes) (code_of M).events)
+    (once_before (slot_names (code_of M) ++ map (λ (e : Word). e.bytes) (code_of M).events) (flat_function_names (code_of M)) (not_true (has_twice (names_of (code_of M))) fair.differ))
+
+-- the values are put into the slots of the signal's parameters, and its function is called
+abbrev pub given_slots : Model → ℕ → List Value → List Cells → List Cells
+given_slots M k vs slots = inputs_set M (slot_names (code_of M)) (interface.inputs_of M k) vs slots
+
+pub signal_begins : (M : Model) (is : IsBasic M) (k : ℕ) (vs : List Value) (sent : IsSent M k vs) (slots : List Cells) → (machine_of M).begin (Some (Shows.Signal k vs)) slots ≡ Running (given_slots M k vs slots) (frame (signal_at M is.fair k sent.signal sent.at sent.incoming).function 0) []
+signal_begins M is k vs sent slots = ap (λ o. entered o (given_slots M k vs slots)) (signal_at M is.fair k sent.signal sent.at sent.incoming).placed
+
+-- the process stands where it stood
+pub given_stands : (M : Model) (is : IsBasic M) (k : ℕ) (vs : List Value) (sent : IsSent M k vs) (mark : Mark) (s : State) (slots : List Cells) → StandsAs M mark s slots → StandsAs M mark s (given_slots M k vs slots)
+given_stands M is k vs sent mark s slots stands =
+    subst (λ fields. StandsAs M mark s (inputs_set M (slot_names (code_of M)) fields vs slots)) (sym (inputs_at M k sent.signal sent.at sent.incoming))
+    (values_stand M mark s (inputs_of M sent.signal) (inputs_beside M (slots_once M is.fair) k sent.signal sent.at) vs slots stands)
 
 signal_with : (M : Model) → IsBasic M → (pace : Pace) (is_pace : IsPace pace) (P : Holds) → WhereCarried M pace is_pace P → (k : ℕ) (vs : List Value) → IsSent M k vs → (st : ℕ) (d : StateDef) (s : State) (slots : List Cells) → slice_get (states_of M) st ≡ Some d → StandsAs M (marked (At st Basic)) s slots
     → P ((machine_of M).begin (Some (Shows.Signal k vs)) slots) (step M (At st Basic) (Shows.Signal k vs)) s
 signal_with M is pace is_pace P holds k vs sent st d s slots at stands =
     let placed = signal_at M is.fair k sent.signal sent.at sent.incoming in
-    let config : Config = Running slots (frame placed.function 0) [] in
+    let given = given_slots M k vs slots in
+    let config : Config = Running given (frame placed.function 0) [] in
     subst (λ c. P c (step M (At st Basic) (Shows.Signal k vs)) s) (sym (signal_begins M is k vs sent slots))
-    (holds config (step M (At st Basic) (Shows.Signal k vs)) s (Here (StandsAs M (marked (At st Basic))) placed.function 0 []) (record { slots = slots; is = refl; holds = stands })
+    (holds config (step M (At st Basic) (Shows.Signal k vs)) s (Here (StandsAs M (marked (At st Basic))) placed.function 0 []) (record { slots = given; is = refl; holds = given_stands M is k vs sent (marked (At st Basic)) s slots stands })
     (takes_by M is pace is_pace k vs sent placed st d at (state_is M is.formed is.basic st d at) (handler_in k d.handlers) refl))
 
 pub no_timer : (M : Model) → IsBasic M → (t : ℕ) → IsTrue (nat_lt t (length M.timers)) → ⊥
@@ -410,11 +423,6 @@ takes_with M is pace is_pace P holds a s slots rests (Shows.Signal k vs) sent =
 takes_with M is pace is_pace P holds a s slots rests (Shows.Expiry t) sent = absurd (no_timer M is t sent)
 
 -- ---- the whole
-
-slots_once : (M : Model) → Fair (code_of M) M → has_twice (slot_names (code_of M)) ≡ false
-slots_once M fair =
-    once_before (slot_names (code_of M)) (map (λ (e : Word). e.bytes) (code_of M).events)
-    (once_before (slot_names (code_of M) ++ map (λ (e : Word). e.bytes) (code_of M).events) (flat_function_names (code_of M)) (not_true (has_twice (names_of (code_of M))) fair.differ))
 
 rest_is_shown : (M : Model) → IsBasic M → (a : Active) (s : State) (slots : List Cells) → Rests M a s slots → (machine_of M).ending slots ≡ Shows.Rest (paths_of M.root a) s.store.variables s.timers
 rest_is_shown M is a s slots rests =

@@ -1,6 +1,7 @@
 -- Where a process of basic states stands: the number of its region, its slots before the start, and its slots at rest.
 use Rattle.std.proofs.Common.{◌≡◌, ℕ, zero, suc, ◌+◌, pos, false, List, [], ◌∷◌, ◌++◌, map, length, slice_get, slice_set, Option, Some, refl, sym, ap, subst, ◌∙◌, arith}
-use Rattle.std.proofs.lemmas.List.{length-map}
+use Rattle.std.specs.List.{range_with_len}
+use Rattle.std.proofs.lemmas.List.{append_assoc, length-map}
 use Rattle.std.proofs.lemmas.Option.{none-some}
 use Rattle.og_names.specs.declared.NameId.{NameId}
 use Rattle.og_types.specs.declared.Sort.{Sort}
@@ -19,12 +20,13 @@ use Rattle.og_ir.specs.declared.SlotDef.{SlotDef}
 use Rattle.og_ir.specs.Cells.{Cells, Cell, global}
 use Rattle.og_ir.specs.FlatSteps.{blank_slot, first_slots}
 use Rattle.og_csubset.specs.Fair.{Fair}
-use Rattle.og_layout.specs.Layout.{Layout, Mark, Between, Inactive, Number, Leaf, NoLeaf, AnyLeaf, Numbers, behind_leaves, all_of, among, numbers_of, numbers_inside, region_numbers, marked, marked_inside, Expected, HoldsAt, IsActive, IsInside, StandsFor}
-use Rattle.og_flatten.specs.Slots.{parameter_slots, layout_by, layout_of}
+use Rattle.og_layout.specs.Layout.{Layout, Mark, Between, Inactive, Number, Leaf, NoLeaf, AnyLeaf, Numbers, behind_leaves, all_of, among, numbers_of, numbers_inside, region_numbers, marked, marked_inside, Expected, HoldsAt, AllHold, anything_in, IsActive, IsInside, StandsFor}
+use Rattle.og_flatten.specs.Slots.{slots_of, parameter_slots, layout_by, layout_of}
 use Rattle.og_flatten.specs.FlatCode.{code_of, states_of}
 use Rattle.og_flatten.proofs.Basic.{StateIs, state_is}
 use Rattle.og_flatten.proofs.Interfaces.{leaf_of, no_regions}
-use Rattle.og_flatten.proofs.PlainSlots.{no_regions_inside, one_region, no_parameter_slots, plain_slots, slots_are}
+use Rattle.og_flatten.proofs.PlainSlots.{no_regions_inside, one_region, parameter_fields, parameters_are, slots_are}
+use Rattle.og_flatten.proofs.Places.{length_more}
 use Rattle.og_flatten.proofs.SingleSteps.{StandsAs}
 use Rattle.og_names.proofs.Truths.{same_value as some_is}
 
@@ -92,18 +94,31 @@ left_number M is =
 
 -- ---- before the start
 
-layout_is : (M : Model) → IsBasic M → layout_of M ≡ layout_by 1 0 0 0
+layout_is : (M : Model) → IsBasic M → layout_of M ≡ layout_by 1 0 0 (length (slots_of (parameter_fields M)))
 layout_is M is =
     ap (λ (rs : List Region). layout_by (length rs) (length M.variables) (length M.timers) (length (parameter_slots M))) (one_region M is.basic)
     ∙ ap (λ (vs : List Variable). layout_by 1 (length vs) (length M.timers) (length (parameter_slots M))) is.basic.no_variables
     ∙ ap (λ (ts : List NameId). layout_by 1 0 (length ts) (length (parameter_slots M))) is.basic.no_timers
-    ∙ ap (λ (ds : List SlotDef). layout_by 1 0 0 (length ds)) (no_parameter_slots M is.basic)
+    ∙ ap (λ (ds : List SlotDef). layout_by 1 0 0 (length ds)) (parameters_are M)
 
 abbrev zeros : List Cells
 zeros = Cell (pos 0) ∷ Cell (pos 0) ∷ Cell (pos 0) ∷ Cell (pos 0) ∷ Cell (pos 0) ∷ Cell (pos 0) ∷ Cell (pos 0) ∷ []
 
-zeros_stand : (M : Model) (s : State) → StandsFor M (layout_by 1 0 0 0) Between s zeros
-zeros_stand M s = (
+-- slots behind others are there
+anything_there : (sorts : List Sort) (before after : List Cells) → AllHold sorts (before ++ after) (anything_in (range_with_len (length before) (length after)))
+anything_there sorts before [] = tt
+anything_there sorts before (c ∷ after) = (
+  record { cells = c; there = behind before after c; holds = tt },
+  subst (λ slots. AllHold sorts slots (anything_in (range_with_len (length before + 1) (length after)))) (append_assoc before (c ∷ []) after)
+      (subst (λ n. AllHold sorts ((before ++ c ∷ []) ++ after) (anything_in (range_with_len n (length after)))) (length_more before c) (anything_there sorts (before ++ c ∷ []) after)),
+)
+  where
+    behind : (before rest : List Cells) (c : Cells) → global (length before) (before ++ c ∷ rest) ≡ Some c
+    behind [] rest c = refl
+    behind (b ∷ before) rest c = behind before rest c
+
+zeros_stand : (M : Model) (s : State) (after : List Cells) → StandsFor M (layout_by 1 0 0 (length after)) Between s (zeros ++ after)
+zeros_stand M s after = (
   record { cells = Cell (pos 0); there = refl; holds = tt },
   (
     record { cells = Cell (pos 0); there = refl; holds = refl },
@@ -117,7 +132,7 @@ zeros_stand M s = (
             record { cells = Cell (pos 0); there = refl; holds = tt },
             (
               record { cells = Cell (pos 0); there = refl; holds = tt },
-              tt,
+              anything_there M.types zeros after,
             ),
           ),
         ),
@@ -126,13 +141,19 @@ zeros_stand M s = (
   ),
 )
 
-first_are : (M : Model) → IsBasic M → first_slots M.types (code_of M) ≡ zeros
+-- the cells of parameters
+abbrev blanks : Model → List Cells
+blanks M = map (λ (d : SlotDef). blank_slot M.types d.sort) (slots_of (parameter_fields M))
+
+first_are : (M : Model) → IsBasic M → first_slots M.types (code_of M) ≡ zeros ++ blanks M
 first_are M is = ap (map (λ (d : SlotDef). blank_slot M.types d.sort)) (slots_are M is.basic)
 
 pub first_stands : (M : Model) → IsBasic M → StandsAs M Between (first_state M) (first_slots M.types (code_of M))
 first_stands M is = record {
   stands = subst (λ slots. StandsFor M (layout_of M) Between (first_state M) slots) (sym (first_are M is))
-      (subst (λ layout. StandsFor M layout Between (first_state M) zeros) (sym (layout_is M is)) (zeros_stand M (first_state M)));
+      (subst (λ layout. StandsFor M layout Between (first_state M) (zeros ++ blanks M)) (sym (layout_is M is))
+      (subst (λ n. StandsFor M (layout_by 1 0 0 n) Between (first_state M) (zeros ++ blanks M)) (length-map (slots_of (parameter_fields M)) (λ (d : SlotDef). blank_slot M.types d.sort))
+      (zeros_stand M (first_state M) (blanks M))));
   has = record {
     variables = length-map M.variables (λ (v : Variable). v.initial);
     timers = length-map M.timers (λ (t : NameId). false);

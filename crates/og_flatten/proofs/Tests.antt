@@ -1,5 +1,5 @@
 -- Tests that hold of each element of a list, or of none.
-use Rattle.std.proofs.Common.{◌≡◌, List, [], ◌∷◌, ◌++◌, Bool, true, false, ◌||◌, map, refl, ap, ◌∙◌}
+use Rattle.std.proofs.Common.{◌≡◌, ℕ, suc, List, [], ◌∷◌, ◌++◌, Bool, true, false, ◌||◌, map, slice_get, Some, refl, ap, ◌∙◌}
 use Rattle.std.specs.List.{list_all, list_any}
 use Rattle.std.proofs.lemmas.Bool.{and_from}
 use Rattle.std.proofs.lemmas.List.Folds.{list_all-append, list_all-map}
@@ -37,3 +37,17 @@ any_append p [] ys a b = b
 any_append p (x ∷ xs) ys a b =
     let both : (p x ≡ false) × (list_any p xs ≡ false) = neither _ _ a in
     ap (λ c. c || list_any p (xs ++ ys)) both.0 ∙ any_append p xs ys both.1 b
+
+-- a test of each place
+pub all_at : {X : Type 0} (p : X → Bool) (xs : List X) → ((i : ℕ) (x : X) → slice_get xs i ≡ Some x → p x ≡ true) → list_all p xs ≡ true
+all_at p [] each = refl
+all_at p (x ∷ xs) each = and_from _ _ (each 0 x refl) (all_at p xs (λ i y at. each (suc i) y at))
+
+-- of two lists behind each other
+pub front_all : {X : Type 0} (p : X → Bool) (xs ys : List X) → list_all p (xs ++ ys) ≡ true → list_all p xs ≡ true
+front_all p [] ys all = refl
+front_all p (x ∷ xs) ys all = and_from _ _ (left_of _ _ all) (front_all p xs ys (right_of _ _ all))
+
+pub back_all : {X : Type 0} (p : X → Bool) (xs ys : List X) → list_all p (xs ++ ys) ≡ true → list_all p ys ≡ true
+back_all p [] ys all = all
+back_all p (x ∷ xs) ys all = back_all p xs ys (right_of _ _ all)

@@ -22,6 +22,7 @@ use Rattle.og_ir.specs.declared.Instr.TheVariants as instr
 use Rattle.og_ir.specs.Arithmetic.{in_64_bits}
 use Rattle.og_ir.specs.Cells.{Cells}
 use Rattle.og_ir.specs.Steps.{Frame, Config, Running, Over, quiet, jumped, showing}
+use Rattle.og_csubset.specs.Interface.{signal_sorts}
 use Rattle.og_csubset.specs.FlatRun.{flat_event, flat_machine}
 use Rattle.og_csubset.specs.Paced.{Pace, IsPace}
 use Rattle.og_csubset.specs.Run.{Machine}
@@ -46,7 +47,7 @@ machine_of M = flat_machine in_64_bits (code_of M) M
 
 -- every event shows its signal
 abbrev pub Emits : Model → Type 0
-Emits M = (k : ℕ) → k < length M.signals → (slots : List Cells) → flat_event M (code_of M) k slots ≡ Some (Shows.Output k [])
+Emits M = (k : ℕ) → k < length M.signals → signal_sorts M k ≡ [] → (slots : List Cells) → flat_event M (code_of M) k slots ≡ Some (Shows.Output k [])
 
 -- the code is at a place, and this is known of its slots
 pub record Here (K : Holding) (f p : ℕ) (callers : List Frame) (s : State) (now : Config) : Type 0 where
@@ -197,7 +198,7 @@ module _ (M : Model) (pace : Pace) (is_pace : IsPace pace) where
       as_wider coded (suc fuel) (suc fuel) (run (suc fuel) M b (piece (step ∷ xs) end)) before before exits exits (behind_unit (place 0 p) (body_ways (p + 1) (p + 1 + (length xs + 1)))) (body_ways p (p + (suc (length xs) + 1))) (omega (arith)) (λ s now at. at) (λ o s now at. at) (one_place_more p (length xs))
       (same_doing coded (suc fuel) (spend (showing_each (event ∷ []) rest)) (run (suc fuel) M b (piece (step ∷ xs) end)) before exits (behind_unit (place 0 p) (body_ways (p + 1) (p + 1 + (length xs + 1)))) (run_output M b step xs end fuel step_is)
       (begins_then coded fuel rest before (event ∷ []) (Here K 0 (p + 1) callers) exits (place 0 p) (body_ways (p + 1) (p + 1 + (length xs + 1)))
-      (begins K 0 p callers K 0 (p + 1) callers (transition_function (control_of M) M) (instr.Emit step_is.signal) (event ∷ []) (A_step number i) (served M p (Some (A_step number i)) serving.0) refl (code.0 ∙ ap (λ a. Some (action_at (end_place M) a)) step_is.is) (same_slots M K (frame 0 p) callers (instr.Emit step_is.signal) (event ∷ []) (λ slots. Running slots (frame 0 (p + 1)) callers) (λ slots. ap (λ o. showing o slots (frame 0 p) callers) (emits step_is.signal step_is.there slots))))
+      (begins K 0 p callers K 0 (p + 1) callers (transition_function (control_of M) M) (instr.Emit step_is.signal) (event ∷ []) (A_step number i) (served M p (Some (A_step number i)) serving.0) refl (code.0 ∙ ap (λ a. Some (action_at (end_place M) a)) step_is.is) (same_slots M K (frame 0 p) callers (instr.Emit step_is.signal) (event ∷ []) (λ slots. Running slots (frame 0 (p + 1)) callers) (λ slots. ap (λ o. showing o slots (frame 0 p) callers) (emits step_is.signal step_is.there step_is.silent slots))))
       (body emits b end e k is next K callers fuel xs (p + 1) number (i + 1) are.1 code.1 serving.1)
       (λ f q y. absurd y)))
 

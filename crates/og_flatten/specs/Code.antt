@@ -6,7 +6,7 @@ use Rattle.std.specs.Prelude.{ℕ, ◌+◌, ◌*◌}
 use Rattle.og_model.specs.declared.Model.{Model}
 use Rattle.og_model.specs.Run.{sdl}
 use Rattle.og_ir.specs.declared.Ir.{Ir}
-use Rattle.og_ir.specs.CellsOnly.{UsesCellsOnly}
+use Rattle.og_ir.specs.WholeSlots.{UsesWholeSlots}
 use Rattle.og_csubset.specs.Agreement.{AreStimuli, SameRuns}
 use Rattle.og_csubset.specs.Fair.{Fair}
 use Rattle.og_csubset.specs.Paced.{Pace, IsPace, IsSafe, paced, paced_size}
@@ -17,6 +17,6 @@ enough_at pace ir n = n * (paced_size pace ir + 1)
 
 pub record IsCodeOf (model : Model) (ir : Ir) : Type 0 where
   pub fair : Fair ir model
-  pub cells : UsesCellsOnly ir
+  pub whole : UsesWholeSlots ir
   pub safe : IsSafe ir model
   pub runs : (pace : Pace) → IsPace pace → SameRuns (AreStimuli model) (enough_at pace ir) (sdl model) (paced pace ir model)

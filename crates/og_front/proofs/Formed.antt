@@ -1,5 +1,5 @@
 -- The model of a tree that comes from a text and keeps the rules is well formed.
-use Rattle.std.proofs.Common.{◌≡◌, ℕ, zero, suc, ◌+◌, ◌≤◌, Bool, true, false, ◌&&◌, nat_eq, List, [], ◌∷◌, length, map, None, refl, sym, ap, subst, ◌∙◌, arith}
+use Rattle.std.proofs.Common.{◌≡◌, ℕ, zero, suc, ◌+◌, ◌≤◌, Bool, true, false, ◌&&◌, nat_eq, List, [], ◌∷◌, length, map, slice_get, None, refl, sym, ap, subst, ◌∙◌, arith}
 use Rattle.std.specs.List.{AllByRecursion, list_all, filter}
 use Rattle.std.specs.Str.{bytes_eq}
 use Rattle.std.specs.Cmp.Lexicographic.{bytes_decides}
@@ -7,7 +7,9 @@ use Rattle.std.specs.Option.{unwrap_or}
 use Rattle.std.proofs.lemmas.List.{length-map, append-nil}
 use Rattle.og_names.specs.declared.NameId.{NameId}
 use Rattle.og_names.specs.Folding.{place_of}
+use Rattle.og_types.specs.declared.Sort.{Sort}
 use Rattle.og_types.specs.Table.{all_differ, same_name}
+use Rattle.og_types.specs.Values.{cells}
 use Rattle.og_model.specs.declared.Signal.{Signal}
 use Rattle.og_model.specs.declared.Handler.{Handler}
 use Rattle.og_model.specs.declared.StateDef.{StateDef}
@@ -22,7 +24,7 @@ use Rattle.og_model.specs.declared.Block.{Block, out-roll-Block, size-Block}
 use Rattle.og_model.specs.declared.Scope.{Scope, out-roll-Scope, size-Scope, size_is-Scope}
 use Rattle.og_model.specs.declared.Model.{Model}
 use Rattle.og_model.specs.Resolved.{if_any}
-use Rattle.og_model.specs.Rules.{KeepsRules, is_plain_name, states_differ, handlers_differ, same_trigger, are_plain_in_action, are_plain_labels_within, are_plain_labels, keeps_in_kind, keeps_in_state, keeps_within}
+use Rattle.og_model.specs.Rules.{KeepsRules, is_plain_name, states_differ, handlers_differ, same_trigger, are_plain_in_action, are_plain_labels_within, are_plain_labels, parameters_of, sends_all_in_action, sends_all_within, sends_all, has_supported_parameters, keeps_in_kind, keeps_in_state, keeps_within}
 use Rattle.og_model.specs.Size.{total, states_in_kind, states_within}
 use Rattle.og_model.specs.WellFormed.{IsWellFormed}
 use Rattle.og_front.specs.declared.rules.Tables.{Tables}
@@ -118,6 +120,40 @@ plain_bodies system =
     (all_so (are_plain_labels M) (map body (transitions system)) (each_map body (λ b. are_plain_labels M b ≡ true) (transitions system)
     (each_so _ (transitions system) (λ t. plain_block M (tables_of system) t.input.outputs t.input.next (size-Block (block_of (tables_of system) t.input.outputs t.input.next))))))
 
+-- ---- parameters, of which no signal has any
+
+no_parameters : (table : List (List ℕ)) (names : List Ident) (k : ℕ) → parameters_of (slice_get (map (signal_of table) names) k) ≡ 0
+no_parameters table [] k = refl
+no_parameters table (name ∷ names) zero = refl
+no_parameters table (name ∷ names) (suc k) = no_parameters table names k
+
+no_cells : (types : List Sort) (table : List (List ℕ)) (names : List Ident) → total (λ (s : Signal). total (cells types) s.sorts) (map (signal_of table) names) ≡ 0
+no_cells types table [] = refl
+no_cells types table (name ∷ names) = let more = no_cells types table names in omega (arith, more)
+
+sending_step : (system : SystemText) (inner : Block → Bool) (output : Ident) → sends_all_in_action (model_of_tree system) inner (out-Action (step_of (tables_of system) output).action) ≡ true
+sending_step system inner output =
+    let k : ℕ = number_in (tables_of system).signals output in
+    ap (sends_all_in_action (model_of_tree system) inner) (outs-Output k [])
+    ∙ ap (nat_eq 0) (no_parameters (name_table system) (signal_names system) k)
+
+sending_block : (system : SystemText) (outputs : List Ident) (next : NextText) (depth : ℕ) → sends_all_within depth (model_of_tree system) (block_of (tables_of system) outputs next) ≡ true
+sending_block system outputs next zero = refl
+sending_block system outputs next (suc depth) =
+    let inner : Block → Bool = sends_all_within depth (model_of_tree system) in
+    let test : Step → Bool = λ s. sends_all_in_action (model_of_tree system) inner (out-Action s.action) in
+    let steps : List Step = map (step_of (tables_of system)) outputs in
+    rw out-roll-Block (all_so test steps (each_map (step_of (tables_of system)) (λ s. test s ≡ true) outputs (each_so _ outputs (sending_step system inner))))
+
+sending_bodies : (system : SystemText) → list_all (sends_all (model_of_tree system)) (bodies_of (tables_of system) system) ≡ true
+sending_bodies system =
+    let M : Model = model_of_tree system in
+    let body : Transition → Body = λ t. input_body (tables_of system) t.input in
+    both (sends_all M (start_body (tables_of system) system.start)) (list_all (sends_all M) (map body (transitions system)))
+    (sending_block system [] system.start.next (size-Block (block_of (tables_of system) [] system.start.next)))
+    (all_so (sends_all M) (map body (transitions system)) (each_map body (λ b. sends_all M b ≡ true) (transitions system)
+    (each_so _ (transitions system) (λ t. sending_block system t.input.outputs t.input.next (size-Block (block_of (tables_of system) t.input.outputs t.input.next))))))
+
 plain_signals : (system : SystemText) → IsWrittenTree system → Keeps system → list_all (is_plain_name (model_of_tree system)) (signal_ids system) ≡ true
 plain_signals system written keeps =
     let test : NameId → Bool = is_plain_name (model_of_tree system) in
@@ -144,12 +180,14 @@ kept_within system (suc depth) le keeps written =
     let M : Model = model_of_tree system in
     let inner : Scope → Bool = keeps_within depth M in
     let test : StateDef → Bool = keeps_in_state M inner in
-    let bodies : Bool = list_all (are_plain_labels M) (bodies_of (tables_of system) system) in
+    let labels : Bool = list_all (are_plain_labels M) (bodies_of (tables_of system) system) in
+    let outputs : Bool = list_all (sends_all M) (bodies_of (tables_of system) system) in
+    let bodies : Bool = labels && outputs in
     rw out-roll-Scope (both (states_differ (states_of system)) (list_all test (states_of system) && bodies) (states_apart system keeps written)
     (both (list_all test (states_of system)) bodies
     (all_so test (states_of system) (each_map (state_of (tables_of system) system) (λ d. test d ≡ true) (first_headers system)
     (each_more (IsHeader system) (λ n. test (state_of (tables_of system) system n) ≡ true) (first_headers system) (λ n. plain_state system inner n keeps) (all_headers system keeps written))))
-    (plain_bodies system)))
+    (both labels outputs (plain_bodies system) (sending_bodies system))))
 
 total_states : (tables : Tables) (system : SystemText) (inner : Scope → ℕ) (names : List Ident)
     → total (λ (d : StateDef). 1 + states_in_kind inner (out-StateKind d.kind)) (map (state_of tables system) names) ≡ length names
@@ -185,11 +223,15 @@ keeps_rules system written keeps =
       first_values = refl;
       first_values_of_procedures = refl;
       procedures_enter_none = refl;
+      procedures_send_all = refl;
+      supported_parameters = all_so (has_supported_parameters M) (map (signal_of (name_table system)) (signal_names system))
+          (each_map (signal_of (name_table system)) (λ (s : Signal). has_supported_parameters M s ≡ true) (signal_names system) (each_so _ (signal_names system) (λ x. refl)));
       scopes = kept_within system (size-Scope (scope_of (tables_of system) system)) (omega (arith, size)) keeps written;
       start = rw out-roll-Scope refl;
       few_states = few_states system (size-Scope (scope_of (tables_of system) system)) keeps;
       few_signals = omega (arith, few, same);
       few_timers = omega arith;
+      few_cells = let none = no_cells M.types (name_table system) (signal_names system) in omega (arith, none);
     }
 
 pub model_is_formed : (system : SystemText) → IsWrittenTree system → first_of_rules system ≡ None → IsWellFormed (model_of_tree system)

@@ -3,7 +3,6 @@ use Rattle.std.proofs.Common.{◌≡◌, ℕ, zero, suc, ◌+◌, ◌<◌, ◌�
 use Rattle.std.specs.List.{AllByRecursion, list_all, filter, flat_map}
 use Rattle.std.proofs.lemmas.List.{length-map}
 use Rattle.og_base.specs.declared.Place.{Place}
-use Rattle.og_types.specs.Table.{is_empty}
 use Rattle.og_model.specs.declared.Signal.{Signal}
 use Rattle.og_model.specs.declared.Handler.{Handler}
 use Rattle.og_model.specs.declared.StateDef.{StateDef}
@@ -59,8 +58,6 @@ model_is_basic system =
       no_timers = refl;
       no_variables = refl;
       no_procedures = refl;
-      no_parameters = all_so (λ (s : Signal). is_empty s.sorts) (map (signal_of (name_table system)) (signal_names system))
-          (each_map (signal_of (name_table system)) (λ (s : Signal). is_empty s.sorts ≡ true) (signal_names system) (each_so _ (signal_names system) (λ x. refl)));
       states = rw out-roll-Scope (all_so is_plain_state (map (state_of tables system) (first_headers system))
           (each_map (state_of tables system) (λ d. is_plain_state d ≡ true) (first_headers system) (each_so _ (first_headers system) (plain_state tables system))));
       start = rw out-roll-Scope refl;

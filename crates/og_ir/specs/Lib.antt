@@ -3,4 +3,4 @@ pub mod Reading
 pub mod Arithmetic
 pub mod Steps
 pub mod FlatSteps
-pub mod CellsOnly
+pub mod WholeSlots

@@ -3,7 +3,6 @@
 use Rattle.std.specs.Prelude.{◌≡◌, Bool, true, false, ◌&&◌, List, [], ◌∷◌, IsTrue, Option, Some, None, is_none}
 use Rattle.std.specs.List.{list_all}
 use Rattle.og_types.specs.Table.{is_empty}
-use Rattle.og_model.specs.declared.Signal.{Signal}
 use Rattle.og_model.specs.declared.Branch.{Branch}
 use Rattle.og_model.specs.declared.Step.{Step}
 use Rattle.og_model.specs.declared.Block.{Block, out-Block}
@@ -63,12 +62,11 @@ abbrev pub is_one_start : List Start → Bool
 is_one_start (x ∷ []) = is_none x.entry
 is_one_start _ = false
 
--- a model of basic states alone, whose signals have no parameters
+-- a model of basic states alone
 pub record UsesBasicStatesOnly (M : Model) : Type 0 where
   pub no_timers : M.timers ≡ []
   pub no_variables : M.variables ≡ []
   pub no_procedures : M.procs ≡ []
-  pub no_parameters : IsTrue (list_all (λ (s : Signal). is_empty s.sorts) M.signals)
   pub states : IsTrue (list_all is_plain_state (out-Scope M.root).states)
   pub start : IsTrue (is_one_start (out-Scope M.root).starts)
   pub bodies : IsTrue (list_all is_plain_body (out-Scope M.root).bodies)

@@ -1,21 +1,22 @@
 -- The rules of the language that a model keeps, as far as they can be broken by the forms that are compiled today; each is
 -- named by the letters and number under which a user sees it. Names are declared once (N2, after Z.101 section 6.3), a state
 -- has one transition for each stimulus (A2, Z.101 section 11.2), a NEXTSTATE stands in no procedure (A10), the first value of
--- a variable is one of its type (G2), and the process has a start (Z.101 section 11.1). That a name has no two underscores
--- together (N4) and the greatest numbers of states, signals and timers (M1, M2) are this project's own. Of A10 and G2 no more
--- is asked yet.
+-- a variable is one of its type (G2), the process has a start (Z.101 section 11.1), and an OUTPUT has as many values as its
+-- signal has parameters (T3). That a name has no two underscores together (N4), that no parameter of a
+-- signal has an opaque part (T7) and the greatest numbers of states, signals, timers and cells (M1, M2, M3) are this project's
+-- own. Of A10, G2, T3 and T7 no more is asked yet.
 use Rattle.std.specs.Prelude.{ℕ, zero, suc, Bool, true, false, not, ◌&&◌, ◌||◌, ◌≤◌, List, [], ◌∷◌, ◌++◌, length, map, nat_eq, slice_get, is_none, IsTrue, Option, Some, None}
 use Rattle.std.specs.List.{list_all, list_any}
 use Rattle.og_names.specs.declared.NameId.{NameId}
 use Rattle.og_types.specs.Table.{all_differ, same_name}
-use Rattle.og_types.specs.Values.{is_in}
+use Rattle.og_types.specs.Values.{is_in, is_supported}
 use Rattle.og_model.specs.declared.Signal.{Signal}
 use Rattle.og_model.specs.declared.Variable.{Variable}
 use Rattle.og_model.specs.declared.Branch.{Branch, out-Branch}
 use Rattle.og_model.specs.declared.Step.{Step}
 use Rattle.og_model.specs.declared.Block.{Block, out-Block, size-Block}
 use Rattle.og_model.specs.declared.Action.{Action, Action-F, out-Action}
-use Rattle.og_model.specs.declared.Action.TheOpen.{Decide}
+use Rattle.og_model.specs.declared.Action.TheOpen.{Decide, Output}
 use Rattle.og_model.specs.declared.Ending.{Ending}
 use Rattle.og_model.specs.declared.EndKind.{EndKind}
 use Rattle.og_model.specs.declared.EndKind.TheVariants.{Next}
@@ -32,7 +33,7 @@ use Rattle.og_model.specs.declared.StateKind.{out-StateKind}
 use Rattle.og_model.specs.declared.StateKind.TheOpen.{Basic, Composite, Aggregation}
 use Rattle.og_model.specs.declared.Model.{Model}
 use Rattle.og_model.specs.Configuration.{Kind}
-use Rattle.og_model.specs.Size.{states_and_partitions}
+use Rattle.og_model.specs.Size.{states_and_partitions, model_cells}
 use Rattle.og_model.specs.Resolved.{if_any}
 
 -- ---- N2: what is declared twice
@@ -124,6 +125,35 @@ enters_none_within (suc depth) b =
 abbrev pub enters_none : Proc → Bool
 enters_none p = list_all (λ (b : Body). enters_none_within (size-Block b.block) b.block) p.bodies
 
+-- ---- T3: as many values as parameters
+
+abbrev pub parameters_of : Option Signal → ℕ
+parameters_of (Some s) = length s.sorts
+parameters_of None = 0
+
+-- an output of as many values, or any other action; so are the actions in the blocks of a decision
+abbrev pub sends_all_in_action : Model → (Block → Bool) → Action-F Action Block Branch Step → Bool
+sends_all_in_action M inner (Output k es) = nat_eq (length es) (parameters_of (slice_get M.signals k))
+sends_all_in_action M inner action = are_plain_in_action inner action
+
+-- the outputs of a block of at most this depth
+abbrev pub sends_all_within : ℕ → Model → Block → Bool
+sends_all_within zero M b = true
+sends_all_within (suc depth) M b =
+    list_all (λ (s : Step). sends_all_in_action M (sends_all_within depth M) (out-Action s.action)) (out-Block b).steps
+
+abbrev pub sends_all : Model → Body → Bool
+sends_all M b = sends_all_within (size-Block b.block) M b.block
+
+abbrev pub procedure_sends_all : Model → Proc → Bool
+procedure_sends_all M p = list_all (sends_all M) p.bodies
+
+-- ---- T7: opaque types of parameters
+
+-- no parameter has an opaque type, or one with an opaque part
+abbrev pub has_supported_parameters : Model → Signal → Bool
+has_supported_parameters M s = list_all (is_supported M.types) s.sorts
+
 -- ---- scopes
 
 abbrev pub keeps_in_partition : Model → (Scope → Bool) → Partition → Bool
@@ -138,13 +168,14 @@ abbrev pub keeps_in_state : Model → (Scope → Bool) → StateDef → Bool
 keeps_in_state M inner d =
     is_plain_name M d.name && (handlers_differ d.handlers && keeps_in_kind M inner (out-StateKind d.kind))
 
--- in a scope of at most this depth: different states, different handlers in each, names without two underscores
+-- in a scope of at most this depth: different states, different handlers in each, names without two underscores, and outputs
+-- of as many values as parameters
 abbrev pub keeps_within : ℕ → Model → Scope → Bool
 keeps_within zero M m = false
 keeps_within (suc depth) M m =
     states_differ (out-Scope m).states
     && (list_all (keeps_in_state M (keeps_within depth M)) (out-Scope m).states
-    && list_all (are_plain_labels M) (out-Scope m).bodies)
+    && (list_all (are_plain_labels M) (out-Scope m).bodies && list_all (sends_all M) (out-Scope m).bodies))
 
 abbrev pub keeps_in_scope : Model → Scope → Bool
 keeps_in_scope M m = keeps_within (size-Scope m) M m
@@ -164,8 +195,11 @@ pub record KeepsRules (M : Model) : Type 0 where
   pub first_values : IsTrue (list_all (begins_in_type M) M.variables)
   pub first_values_of_procedures : IsTrue (list_all (begin_in_types M) M.procs)
   pub procedures_enter_none : IsTrue (list_all enters_none M.procs)
+  pub procedures_send_all : IsTrue (list_all (procedure_sends_all M) M.procs)
+  pub supported_parameters : IsTrue (list_all (has_supported_parameters M) M.signals)
   pub scopes : IsTrue (keeps_in_scope M M.root)
   pub start : IsTrue (has_unnamed_start M.root)
   pub few_states : states_and_partitions M ≤ 1000
   pub few_signals : length M.signals ≤ 200
   pub few_timers : length M.timers ≤ 200
+  pub few_cells : model_cells M ≤ 65536

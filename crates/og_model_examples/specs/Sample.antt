@@ -1,9 +1,10 @@
--- Three small models for examples that are computed: one with two basic states, one with a composite state and a state
--- aggregation inside it, and one with data and a procedure.
+-- Small models for examples that are computed: one with two basic states, one with a composite state and a state aggregation
+-- inside it, one with data and a procedure, and some with parameters of signals.
 use Rattle.std.specs.Prelude.{ℕ, List, [], ◌∷◌, map, ℤ, pos, negsuc, Bool, true, false, Some, None}
 use Rattle.og_base.specs.declared.Place.{Place}
 use Rattle.og_names.specs.declared.NameId.{NameId}
 use Rattle.og_types.specs.declared.TypeId.{TypeId}
+use Rattle.og_types.specs.declared.Sort.{Sort}
 use Rattle.og_types.specs.declared.Sort.TheVariants as Sorts
 use Rattle.og_types.specs.declared.Value as Values
 use Rattle.og_model.specs.declared.Model.{Model}
@@ -220,6 +221,43 @@ entering_procedure = record with_data {
     formals = [];
     locals = [];
     bodies = body [] (next 7) ∷ [];
+  } ∷ [];
+}
+
+-- ---- parameters of signals
+
+-- `go` has a parameter of the type of this number; `idle` drops its value
+abbrev pub taking : List Sort → ℕ → Model
+taking types n = record two_states { types = types; signals = signal 1 (sort n ∷ []) ∷ signal 2 [] ∷ [] }
+
+-- SEQUENCE (SIZE (0 .. n)) OF INTEGER (0 .. 9)
+abbrev pub lists : ℕ → List Sort
+lists n = Sorts.Int (pos 0) (pos 9) ∷ Sorts.SeqOf 0 n (sort 0) ∷ []
+
+-- the items of a list are opaque
+abbrev pub opaque_items : List Sort
+opaque_items = Sorts.Opaque ∷ Sorts.SeqOf 0 2 (sort 0) ∷ []
+
+-- `done` has one parameter, and is sent with these values
+abbrev pub sending : List Expr → Model
+sending values = record two_states {
+  types = Sorts.Int (pos 0) (pos 9) ∷ [];
+  signals = signal 1 [] ∷ signal 2 (sort 0 ∷ []) ∷ [];
+  root = scope
+      (state 3 Kinds.Basic (on_signal 0 1 ∷ []) ∷ state 4 Kinds.Basic [] ∷ [])
+      (body [] (next 0) ∷ body (step (Actions.Output 1 values) ∷ []) (next 1) ∷ []);
+}
+
+-- a procedure that sends `go` without its value
+abbrev pub sending_in_procedure : Model
+sending_in_procedure = record with_data {
+  procs = record {
+    name = name 4;
+    place = at 1 1;
+    result = None;
+    formals = [];
+    locals = [];
+    bodies = body (step (Actions.Output 0 []) ∷ []) (Ends.Return None None) ∷ [];
   } ∷ [];
 }
 

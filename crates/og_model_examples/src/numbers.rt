@@ -7,7 +7,7 @@ ghost use Rattle.og_model.specs.Resolved.{IsResolved};
 ghost use Rattle.og_model.specs.Size.{bulk, inlined};
 ghost use Rattle.og_model.specs.WellFormed.{IsWellFormed};
 ghost use Rattle.og_model.specs.Forms.{UsesBasicStatesOnly};
-ghost use Rattle.og_model_examples.specs.Sample.{double_underscore, entering_procedure, first_value_outside, nested, state_not_there, twice_handled, two_states, with_data, without_start, leaf, region};
+ghost use Rattle.og_model_examples.specs.Sample.{double_underscore, entering_procedure, first_value_outside, nested, state_not_there, twice_handled, two_states, with_data, without_start, leaf, lists, literal, opaque_items, region, sending, sending_in_procedure, taking};
 
 /// Two basic states are two leaves of one region.
 pub fn regions_of_two_states()
@@ -100,4 +100,30 @@ pub fn trees_ask_no_rule()
 pub fn further_forms()
     ensures states { UsesBasicStatesOnly nested → ⊥ }
     ensures data { UsesBasicStatesOnly with_data → ⊥ }
+{}
+
+/// Parameters are no further form; a signal's values may be dropped, and an output gives one for each parameter.
+pub fn parameters_are_accepted()
+    ensures dropped { IsWellFormed (taking (lists 2) 1) }
+    ensures sent { IsWellFormed (sending (literal 4 ∷ [])) }
+    ensures basic { UsesBasicStatesOnly (taking (lists 2) 1) }
+{}
+
+/// An output with fewer or more values than its signal has parameters is not accepted.
+pub fn outputs_have_all_values()
+    ensures fewer { IsWellFormed (sending []) → ⊥ }
+    ensures more { IsWellFormed (sending (literal 4 ∷ literal 4 ∷ [])) → ⊥ }
+    ensures in_procedure { IsWellFormed sending_in_procedure → ⊥ }
+{}
+
+/// A parameter of an opaque type is not accepted, nor is one with an opaque part.
+pub fn parameters_are_not_opaque()
+    ensures whole { IsWellFormed (taking opaque_items 0) → ⊥ }
+    ensures part { IsWellFormed (taking opaque_items 1) → ⊥ }
+{}
+
+/// A list of 65,535 items and its length are 65,536 cells, which are accepted; one item more is not.
+pub fn cells_are_counted()
+    ensures most { IsWellFormed (taking (lists 65535) 1) }
+    ensures more { IsWellFormed (taking (lists 65536) 1) → ⊥ }
 {}

@@ -4,10 +4,8 @@ use Rattle.std.proofs.Common.{◌≡◌, ◌∙◌, ℕ, ◌≤◌, Bool, true, 
 use Rattle.std.specs.Prelude.{◌||◌, nat_lt}
 use Rattle.std.proofs.lemmas.Bool.{false≢true, ltb-true, ltb-false}
 use Rattle.og_base.specs.Store.{Files}
-use Rattle.og_front.specs.declared.syntax.SystemText.{SystemText}
-use Rattle.og_front.specs.ModelOf.{model_of_tree}
+use Rattle.og_types.specs.Table.{is_table}
 use Rattle.og_model.specs.declared.Model.{Model}
-use Rattle.og_model.specs.Forms.{UsesBasicStatesOnly}
 use Rattle.og_model.specs.Run.{sdl}
 use Rattle.og_model.specs.Shown.{Event, Shown, End, Rest, Fault, Stopped, Past, Stuck, Stimulus, is_past, has_past}
 use Rattle.og_ir.specs.Cells.{Cells}
@@ -25,19 +23,18 @@ use Rattle.og_tool.specs.declared.status.Status.TheVariants as status
 use Rattle.og_tool.specs.Answers.{as_word, IsTrace, IsOutputFor, status_of}
 use Rattle.og_words.specs.Words.{Simulate}
 use Rattle.og_tool.proofs.OneOutput.{Laws, same_bytes, same_model, never_reported, same_report}
-use Rattle.og_tool.proofs.GivenStimuli.{stimuli_are_taken}
+use Rattle.og_tool.proofs.GivenStimuli.{stimuli_are_taken, types_of_tree}
 
 -- a run with more statements shows the same where nothing was cut short
 abbrev pub MoreGoOn : Type 0
 MoreGoOn = (program : CProgram) (model : Model) (stimuli : List Stimulus) (m n : ℕ) → m ≤ n → has_past (c program model stimuli m) ≡ false
     → c program model stimuli n ≡ c program model stimuli m
 
--- what the laws of runs and of models say
+-- what the laws of runs say
 pub record RunLaws : Type 0 where
   pub shown : (model : Model) (P Q : CProgram) → SameBehaviour model P → SameBehaviour model Q → (stimuli : List Stimulus) → AreStimuli model stimuli
       → (m : ℕ) → has_past (c P model stimuli m) ≡ false → (k : ℕ) × (c Q model stimuli k ≡ c P model stimuli m)
   pub more : MoreGoOn
-  pub basic : (system : SystemText) → UsesBasicStatesOnly (model_of_tree system)
 
 -- ---- what is cut short is told as such
 
@@ -81,7 +78,7 @@ not_past M P text steps not =
 
 -- ---- two programs that agree with a model
 
-module _ (laws : RunLaws) (M : Model) (basic : UsesBasicStatesOnly M) (P Q : CProgram) (agrees : SameBehaviour M P) (other : SameBehaviour M Q) where
+module _ (laws : RunLaws) (M : Model) (table : is_table M.types ≡ true) (P Q : CProgram) (agrees : SameBehaviour M P) (other : SameBehaviour M Q) where
   same_shown : (stimuli : List Stimulus) → AreStimuli M stimuli → (m : ℕ) → has_past (c P M stimuli m) ≡ false → has_past (c Q M stimuli m) ≡ false
       → c P M stimuli m ≡ c Q M stimuli m
   same_shown stimuli are m p q = by_order (nat_lt m found.0) refl
@@ -99,7 +96,7 @@ module _ (laws : RunLaws) (M : Model) (basic : UsesBasicStatesOnly M) (P Q : CPr
   same_over_file : (text : List ℕ) (steps : ℕ) → (run_outcome M P text steps ≡ outcome.Past → ⊥) → (run_outcome M Q text steps ≡ outcome.Past → ⊥)
       → shown_over_file M P text steps ≡ shown_over_file M Q text steps
   same_over_file text steps p q =
-      same_shown (given (stims_of M text).list) (stimuli_are_taken M basic text) steps (not_past M P text steps p) (not_past M Q text steps q)
+      same_shown (given (stims_of M text).list) (stimuli_are_taken M table text) steps (not_past M P text steps p) (not_past M Q text steps q)
 
   same_traces : (files : Files) (names : List (List ℕ)) (stimuli : List ℕ) (steps : ℕ) (one two : Status) (text more : List ℕ)
       → IsTrace (Some files) M P names stimuli steps one text → IsTrace (Some files) M Q names stimuli steps two more
@@ -126,8 +123,8 @@ one_simulation laws more files names stimuli steps one two text other (inr x) (i
     let models : y.model ≡ x.model = same_model laws files names y.model x.model y.has_model x.has_model in
     let A : Model → Type 0 = λ model. SameBehaviour model y.program in
     let T : Model → Type 0 = λ model. IsTrace (Some files) model y.program names stimuli steps two other in
-    let basic : UsesBasicStatesOnly x.model = subst UsesBasicStatesOnly (sym x.has_model.have.is) (more.basic x.has_model.have.system) in
-    same_traces more x.model basic x.program y.program x.agrees (subst A models y.agrees) files names stimuli steps one two text other x.traces (subst T models y.traces) p q
+    let table : is_table x.model.types ≡ true = ap (λ (model : Model). is_table model.types) x.has_model.have.is ∙ types_of_tree x.has_model.have.system in
+    same_traces more x.model table x.program y.program x.agrees (subst A models y.agrees) files names stimuli steps one two text other x.traces (subst T models y.traces) p q
 
 -- ---- enough statements
 
@@ -156,11 +153,11 @@ file_end_is_no_cut : (bad : Option BadLine) → at_file_end bad ≡ outcome.Past
 file_end_is_no_cut None e = let h : outcome.Done ≡ outcome.Past = e in cc
 file_end_is_no_cut (Some bad) e = let h : outcome.BadFile ≡ outcome.Past = e in cc
 
-pub enough_is_enough : MoreGoOn → (M : Model) (P : CProgram) → SameBehaviour M P → UsesBasicStatesOnly M → (text : List ℕ) (n : ℕ) → 1 ≤ n
+pub enough_is_enough : MoreGoOn → (M : Model) (P : CProgram) → SameBehaviour M P → is_table M.types ≡ true → (text : List ℕ) (n : ℕ) → 1 ≤ n
     → has_past (sdl M (given (stims_of M text).list) n) ≡ false → (steps : ℕ) → enough P n ≤ steps → run_outcome M P text steps ≡ outcome.Past → ⊥
-enough_is_enough more M P same basic text n some ends steps less e =
+enough_is_enough more M P same table text n some ends steps less e =
     let stimuli = given (stims_of M text).list in
-    let shows = same.runs.shows stimuli (stimuli_are_taken M basic text) n some ends in
+    let shows = same.runs.shows stimuli (stimuli_are_taken M table text) n some ends in
     let whole : has_past (c P M stimuli (enough P n)) ≡ false = ap has_past shows ∙ ends in
     let longer : has_past (c P M stimuli steps) ≡ false = ap has_past (more P M stimuli (enough P n) steps less whole) ∙ whole in
     none_cut (at_file_end (stims_of M text).bad) (shown_over_file M P text steps) (file_end_is_no_cut (stims_of M text).bad) longer e

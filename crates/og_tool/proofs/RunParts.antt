@@ -1,7 +1,8 @@
 -- What the parts of the top call give, put together.
-use Rattle.std.proofs.Common.{◌≡◌, ℕ, List, Option, sym, subst, inl, inr, refl}
+use Rattle.std.proofs.Common.{◌≡◌, ℕ, true, List, Option, ap, ◌∙◌, subst, inl, inr, refl}
 use Rattle.og_base.specs.Store.{Files}
-use Rattle.og_model.specs.Forms.{UsesBasicStatesOnly}
+use Rattle.og_model.specs.declared.Model.{Model}
+use Rattle.og_types.specs.Table.{is_table}
 use Rattle.og_trace.specs.declared.Outcome.{Outcome}
 use Rattle.og_trace.specs.declared.Outcome.TheVariants as outcome
 use Rattle.og_trace.specs.Traces.{run_outcome}
@@ -9,8 +10,7 @@ use Rattle.og_tool.specs.declared.status.Status.{Status}
 use Rattle.og_tool.specs.declared.status.Status.TheVariants.{Done, Refused, BadFile, Past, Faulted, Stuck}
 use Rattle.og_tool.specs.Answers.{IsOutputFor, IsSimulation, status_of}
 use Rattle.og_words.specs.Words.{Command, Check, Compile, Run, Simulate, AsksFor, AskForRun}
-use Rattle.og_tool.proofs.GivenStimuli.{agreeing_is_never_stuck}
-use Rattle.og_front.proofs.Resolving.{model_is_basic}
+use Rattle.og_tool.proofs.GivenStimuli.{agreeing_is_never_stuck, types_of_tree}
 use Rattle.og_tool.specs.Answering.{CommandAnswer, WroteAll}
 
 -- ---- what a command calls for
@@ -18,8 +18,8 @@ use Rattle.og_tool.specs.Answering.{CommandAnswer, WroteAll}
 -- a simulation is never stuck
 not_stuck : (told : Option Files) (names : List (List ℕ)) (stimuli : List ℕ) (steps : ℕ) (text : List ℕ) → IsSimulation told names stimuli steps Stuck text → ⊥
 not_stuck told names stimuli steps text is =
-    let basic : UsesBasicStatesOnly is.model = subst UsesBasicStatesOnly (sym is.has_model.have.is) (model_is_basic is.has_model.have.system) in
-    agreeing_is_never_stuck is.model is.program is.agrees basic is.traces.bytes steps (stuck_only (run_outcome is.model is.program is.traces.bytes steps) is.traces.ends)
+    let table : is_table is.model.types ≡ true = ap (λ (model : Model). is_table model.types) is.has_model.have.is ∙ types_of_tree is.has_model.have.system in
+    agreeing_is_never_stuck is.model is.program is.agrees table is.traces.bytes steps (stuck_only (run_outcome is.model is.program is.traces.bytes steps) is.traces.ends)
   where
     stuck_only : (o : Outcome) → Stuck ≡ status_of o → o ≡ outcome.Stuck
     stuck_only outcome.Done e = absurd (let h : Stuck ≡ Done = e in cc)

@@ -1,9 +1,9 @@
 //! Laws of what a command calls for, each as the contract of a function that does nothing.
-ghost use Rattle.std.specs.Prelude.{◌≡◌, ◌≢◌, ◌≤◌, ℕ, List, Some, false};
+ghost use Rattle.std.specs.Prelude.{◌≡◌, ◌≢◌, ◌≤◌, ℕ, List, Some, false, IsTrue};
 ghost use Rattle.og_base.specs.Store.{Files};
 ghost use Rattle.og_csubset.specs.Agreement.{SameBehaviour, enough};
 ghost use Rattle.og_csubset.specs.declared.CProgram.{CProgram};
-ghost use Rattle.og_model.specs.Forms.{UsesBasicStatesOnly};
+ghost use Rattle.og_types.specs.Table.{is_table};
 ghost use Rattle.og_model.specs.declared.Model.{Model};
 ghost use Rattle.og_model.specs.Run.{sdl};
 ghost use Rattle.og_model.specs.Shown.{has_past};
@@ -18,7 +18,6 @@ use og_csubset::{
     agreeing_programs_show_the_same, more_statements_go_on, one_answer, one_deep_place,
     one_program, one_wrong_place,
 };
-use og_front::models_are_well_formed;
 use og_judge::one_judgement;
 use og_report::one_report;
 
@@ -46,9 +45,9 @@ pub fn one_output()
     one_wrong_place();
 }
 
-/// A program that agrees with a model of basic states is never stuck, whatever bytes its file of stimuli holds.
+/// A program that agrees with a model whose types are a table is never stuck, whatever bytes its file of stimuli holds.
 pub fn agreeing_is_never_stuck()
-    ensures { (model : Model) (program : CProgram) → SameBehaviour model program → UsesBasicStatesOnly model → (text : List ℕ) (steps : ℕ) →
+    ensures { (model : Model) (program : CProgram) → SameBehaviour model program → IsTrue (is_table model.types) → (text : List ℕ) (steps : ℕ) →
         run_outcome model program text steps ≡ outcome.Stuck → ⊥ }
 {}
 
@@ -67,13 +66,12 @@ pub fn one_simulation()
     one_wrong_place();
     agreeing_programs_show_the_same();
     more_statements_go_on();
-    models_are_well_formed();
 }
 
-/// Where the model comes to an end with n units of work for the start and for each stimulus of a file, a run of a program
-/// that agrees with it is not cut short, as long as it has n times the program's size and one more statements or more.
+/// Where a model whose types are a table comes to an end with n units of work for the start and for each stimulus of a file, a
+/// run of a program that agrees with it is not cut short, as long as it has n times the program's size and one more statements or more.
 pub fn enough_is_enough()
-    ensures { (model : Model) (program : CProgram) → SameBehaviour model program → UsesBasicStatesOnly model → (text : List ℕ) (n : ℕ) → 1 ≤ n →
+    ensures { (model : Model) (program : CProgram) → SameBehaviour model program → IsTrue (is_table model.types) → (text : List ℕ) (n : ℕ) → 1 ≤ n →
         has_past (sdl model (given (stims_of model text).list) n) ≡ false → (steps : ℕ) → enough program n ≤ steps →
         run_outcome model program text steps ≢ outcome.Past }
 {

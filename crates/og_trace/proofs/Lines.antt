@@ -220,7 +220,7 @@ pub same_sorts : (o : Option Signal) → sorts_in o ≡ interface.sorts_of o
 same_sorts None = refl
 same_sorts (Some s) = refl
 
-values_of_id : (M : Model) → is_table M.types ≡ true → (y : StimId) (texts : List (List ℕ)) (vs : List Value)
+pub values_of_id : (M : Model) → is_table M.types ≡ true → (y : StimId) (texts : List (List ℕ)) (vs : List Value)
     → values_read M (sorts_of M y) texts ≡ Some vs → AreValuesOf M y vs
 values_of_id M table id.Start texts vs e = tt
 values_of_id M table (id.Signal k) texts vs e =

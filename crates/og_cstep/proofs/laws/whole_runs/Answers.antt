@@ -5,4 +5,4 @@ pub returns-clause-further : goal.returns-clause-further
 returns-clause-further c = λ run stimuli steps le. seen_is steps stimuli run.program run.model run.cells run.config run.last le
 
 pub returns-clause-whole : goal.returns-clause-whole
-returns-clause-whole c = λ program model ids stimuli steps le are. whole_is steps ids stimuli program model le are
+returns-clause-whole c = λ program model stimuli steps le. whole_is steps stimuli program model le

@@ -20,5 +20,4 @@ returns c =
     (record {
       shown = c.agreeing_programs_show_the_same.ensures.some_statements;
       more = c.more_statements_go_on.ensures.same;
-      basic = c.models_are_well_formed.ensures.basic;
     })

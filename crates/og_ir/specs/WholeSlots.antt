@@ -1,12 +1,9 @@
--- Which forms flat code uses. This is no part of what it does: it names the code whose slots are single cells, so that a slot
--- is read and set as a whole.
+-- Which forms flat code uses. This is no part of what it does: it names the code that reads and sets each slot as a whole, and
+-- no part of one.
 use Rattle.std.specs.Prelude.{ℕ, zero, suc, Bool, true, false, ◌&&◌, List, [], ◌∷◌, IsTrue}
 use Rattle.std.specs.List.{list_all}
 use Rattle.og_types.specs.Table.{is_empty}
 use Rattle.og_ir.specs.declared.Ir.{Ir}
-use Rattle.og_ir.specs.declared.SlotDef.{SlotDef}
-use Rattle.og_ir.specs.declared.SlotSort.{SlotSort}
-use Rattle.og_ir.specs.declared.SlotSort.TheVariants as slot_sort
 use Rattle.og_ir.specs.declared.FlatFn.{FlatFn}
 use Rattle.og_ir.specs.declared.Instr.{Instr}
 use Rattle.og_ir.specs.declared.Instr.TheVariants as instr
@@ -15,10 +12,6 @@ use Rattle.og_ir.specs.declared.Step2.{Step2}
 use Rattle.og_ir.specs.declared.Flat.{Flat, out-Flat, size-Flat}
 use Rattle.og_ir.specs.declared.Flat.TheOpen as flat
 use Rattle.og_ir.specs.declared.Flat.TheOpen.{Flat-F}
-
-abbrev pub is_cell : SlotSort → Bool
-is_cell slot_sort.Cell = true
-is_cell (slot_sort.Shaped t) = false
 
 abbrev pub is_whole : Slot → Bool
 is_whole slot = is_empty slot.path
@@ -46,7 +39,6 @@ is_plain_instruction (instr.Call f) = true
 is_plain_instruction (instr.Emit event) = true
 is_plain_instruction instr.Back = true
 
--- each slot is one cell, and each is read and set whole
-pub record UsesCellsOnly (ir : Ir) : Type 0 where
-  pub slots : IsTrue (list_all (λ (s : SlotDef). is_cell s.sort) ir.slots)
+-- each slot is read and set whole
+pub record UsesWholeSlots (ir : Ir) : Type 0 where
   pub code : IsTrue (list_all (λ (f : FlatFn). list_all is_plain_instruction f.code) ir.functions)
