@@ -22,7 +22,7 @@ use Rattle.og_model.specs.declared.Select.{Select}
 use Rattle.og_model.specs.declared.Expr.{Expr}
 use Rattle.og_model.specs.declared.Node.{Node, Node-F, out-Node}
 use Rattle.og_model.specs.declared.Node.TheOpen as Nodes
-use Rattle.og_model.specs.WellSorted.{Data, sort_of_variable}
+use Rattle.og_model.specs.WellSorted.{Data}
 use Rattle.og_ir.specs.declared.Instr.{Instr}
 use Rattle.og_ir.specs.declared.Instr.TheVariants as instr
 use Rattle.og_ir.specs.declared.Slot.{Slot}
@@ -35,7 +35,7 @@ use Rattle.og_ir.specs.declared.FlatRel.TheVariants as rel
 use Rattle.og_ir.specs.declared.Test.{Test}
 use Rattle.og_ir.specs.Arithmetic.{in_64_bits}
 use Rattle.og_ranges.specs.declared.Interval.{Interval}
-use Rattle.og_ranges.specs.Ranges.{range_within, sort_numbered}
+use Rattle.og_ranges.specs.Ranges.{range_of, sort_of_target}
 use Rattle.og_ranges.specs.Calls.{interval_if}
 use Rattle.og_expr.specs.declared.Operand.{Operand}
 use Rattle.og_expr.specs.declared.Operand.TheVariants.{Literal, Variable, Temporary}
@@ -195,7 +195,7 @@ joined a level at o negative left right =
     let before = between a level behind o (length right.code) in
     in_temporary level
         (left.code ++ (before ++ (right.code
-            ++ ending a level (behind + (length before + length right.code)) o negative (flat_of a (suc level) right.value))))
+            ++ ending a level (behind + (size_between o + length right.code)) o negative (flat_of a (suc level) right.value))))
         (max left.temps right.temps)
 
 -- ---- expressions
@@ -207,19 +207,19 @@ abbrev pub slot_of : Around → VarId → ℕ
 slot_of a (Process n) = get_or a.variables n 0
 slot_of a (Local n) = get_or a.locals n 0
 
-abbrev pub minus : Around → ℕ → Lowered → Lowered
-minus a level x =
-    in_temporary level (x.code ++ (set (a.temps level) (operation op.Sub (number (pos 0)) (flat_of a level x.value)) ∷ [])) x.temps
+-- a number less the value
+abbrev pub less : Around → ℕ → ℤ → Lowered → Lowered
+less a level z x =
+    in_temporary level (x.code ++ (set (a.temps level) (operation op.Sub (number z) (flat_of a level x.value)) ∷ [])) x.temps
 
 abbrev pub negated : Around → ℕ → Lowered → Operand → Lowered
 negated a level x (Literal z) = plain (literal (neg_ℤ z))
-negated a level x (Variable k) = minus a level x
-negated a level x Temporary = minus a level x
+negated a level x (Variable k) = less a level (pos 0) x
+negated a level x Temporary = less a level (pos 0) x
 
 abbrev pub unary : Around → ℕ → UnaryOp → Lowered → Lowered
 unary a level Minus x = negated a level x x.value
-unary a level Not x =
-    in_temporary level (x.code ++ (set (a.temps level) (operation op.Sub (number (pos 1)) (flat_of a level x.value)) ∷ [])) x.temps
+unary a level Not x = less a level (pos 1) x
 
 abbrev pub binary : Lowers → (Expr → Option Interval) → Around → ℕ → ℕ → BinaryOp → Expr → Expr → Lowered
 binary inner ranges a level at o x y =
@@ -242,7 +242,7 @@ lowered_node inner ranges a level at _ = plain (literal (pos 0))
 abbrev pub lowered_within : ℕ → Around → Lowers
 lowered_within zero a level at e = plain (literal (pos 0))
 lowered_within (suc depth) a level at e =
-    lowered_node (lowered_within depth a) (λ x. interval_if (range_within depth a.data x)) a level at (out-Node e.node)
+    lowered_node (lowered_within depth a) (λ x. interval_if (range_of a.data x)) a level at (out-Node e.node)
 
 -- an expression is at most 64 deep
 unfoldable pub lowered : Around → Lowers
@@ -258,7 +258,7 @@ is_cell_sort _ = false
 
 -- a whole variable of one cell
 abbrev pub is_cell : Data → Target → Bool
-is_cell d t = is_empty t.path && is_cell_sort (sort_numbered d.types (sort_of_variable d t.variable))
+is_cell d t = is_empty t.path && is_cell_sort (sort_of_target d t)
 
 abbrev pub is_simple_node : (Expr → Bool) → Data → Node-F Node Select Expr Target → Bool
 is_simple_node inner d (Nodes.Number z) = true
