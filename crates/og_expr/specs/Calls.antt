@@ -6,7 +6,7 @@ use Rattle.og_expr.specs.Lowering.{Around}
 
 abbrev pub around_of : Surroundings → Around
 around_of x = record {
-  data = data_of x.declared;
+  declared = data_of x.declared;
   variables = x.variables.now;
   locals = x.locals.now;
   temps = λ level. get_or x.temps.now level 0;

@@ -78,18 +78,18 @@ pub record KeptButKind (a : Around) (level room : ℕ) (before after : List Cell
 pub record HoldsValue (a : Around) (slots : List Cells) (k : ℕ) (id : TypeId) (v : Value) : Type 0 where
   pub cells : Cells
   pub there : global k slots ≡ Some cells
-  pub holds : value_in a.data.types id cells ≡ Some v
+  pub holds : value_in a.declared.types id cells ≡ Some v
 
 -- each variable has a slot that holds its value
 pub record VariablesStand (a : Around) (b : Frame) (s : Store) (slots : List Cells) : Type 0 where
-  pub each : (x : VarId) (id : TypeId) → sort_of_variable a.data x ≡ Some id
+  pub each : (x : VarId) (id : TypeId) → sort_of_variable a.declared x ≡ Some id
       → HoldsValue a slots (slot_of a x) id (read s (location_of b x))
 
 -- there are so many temporaries, none of them twice, and none of them a variable; and there is a slot for the fault's kind
 pub record HasRoom (a : Around) (room : ℕ) (slots : List Cells) : Type 0 where
   pub there : (m : ℕ) → m < room → a.temps m < length slots
   pub differ : (m n : ℕ) → m < room → n < room → a.temps m ≡ a.temps n → m ≡ n
-  pub no_variable : (x : VarId) (id : TypeId) (m : ℕ) → sort_of_variable a.data x ≡ Some id → m < room → a.temps m ≡ slot_of a x → ⊥
+  pub no_variable : (x : VarId) (id : TypeId) (m : ℕ) → sort_of_variable a.declared x ≡ Some id → m < room → a.temps m ≡ slot_of a x → ⊥
   pub kind : a.kind < length slots
 
 -- ---- what code gives
@@ -122,7 +122,7 @@ Gives w a level room at x before (Err kind) = GivesFault w a level room at x bef
 abbrev pub ExpressionsAreLowered : Type 0 → Type 0
 ExpressionsAreLowered E =
     (w : Where E) (a : Around) (b : Frame) (s : Store) (slots : List Cells) (level room at : ℕ) (e : Expr)
-    → is_table a.data.types ≡ true → is_expression a.data e ≡ true → (range_of a.data e).violations ≡ []
-    → is_simple a.data e ≡ true → VariablesStand a b s slots → HasRoom a room slots
+    → is_table a.declared.types ≡ true → is_expression a.declared e ≡ true → (range_of a.declared e).violations ≡ []
+    → is_simple a.declared e ≡ true → VariablesStand a b s slots → HasRoom a room slots
     → (lowered a level at e).temps ≤ room → IsCode w at (lowered a level at e).code
     → Gives w a level room at (lowered a level at e) slots (eval b s e)

@@ -44,7 +44,7 @@ use Rattle.og_expr.specs.declared.Lowered.{Lowered}
 -- what the code stands among: the slots of the variables, the temporary of each level, the slot of a fault's kind, and the
 -- place where a fault leads
 pub record Around : Type 0 where
-  pub data : Data
+  pub declared : Data
   pub variables : List ℕ
   pub locals : List ℕ
   pub temps : ℕ → ℕ
@@ -242,7 +242,7 @@ lowered_node inner ranges a level at _ = plain (literal (pos 0))
 abbrev pub lowered_within : ℕ → Around → Lowers
 lowered_within zero a level at e = plain (literal (pos 0))
 lowered_within (suc depth) a level at e =
-    lowered_node (lowered_within depth a) (λ x. interval_if (range_of a.data x)) a level at (out-Node e.node)
+    lowered_node (lowered_within depth a) (λ x. interval_if (range_of a.declared x)) a level at (out-Node e.node)
 
 -- an expression is at most 64 deep
 unfoldable pub lowered : Around → Lowers
