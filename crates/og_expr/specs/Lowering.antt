@@ -188,14 +188,18 @@ is_division Ops.Mod = true
 is_division Ops.Rem = true
 is_division _ = false
 
+-- a divisor that may be 0
+abbrev pub is_tested : BinaryOp → Option Interval → Bool
+is_tested o right = is_division o && may_be_zero right
+
 -- two operands under an operator, where the left one's code stands at a place
 abbrev pub joined : Around → ℕ → ℕ → BinaryOp → Bool → Lowered → Lowered → Lowered
 joined a level at o negative left right =
     let behind = at + length left.code in
     let before = between a level behind o (length right.code) in
     in_temporary level
-        (left.code ++ (before ++ (right.code
-            ++ ending a level (behind + (size_between o + length right.code)) o negative (flat_of a (suc level) right.value))))
+        (((left.code ++ before) ++ right.code)
+            ++ ending a level (behind + (size_between o + length right.code)) o negative (flat_of a (suc level) right.value))
         (max left.temps right.temps)
 
 -- ---- expressions
@@ -221,12 +225,19 @@ abbrev pub unary : Around → ℕ → UnaryOp → Lowered → Lowered
 unary a level Minus x = negated a level x x.value
 unary a level Not x = less a level (pos 1) x
 
+-- where the right operand's code begins, where the left one's stands at a place
+abbrev pub start_of : ℕ → BinaryOp → Lowered → ℕ
+start_of at o left = at + (length left.code + size_between o)
+
+-- two operands under an operator, where their intervals are these
+abbrev pub operated : Around → ℕ → ℕ → BinaryOp → Option Interval → Option Interval → Lowered → Lowered → Lowered
+operated a level at o i j left right =
+    joined a level at o (may_be_negative i) left (divisor a (suc level) (start_of at o left) (is_tested o j) right)
+
 abbrev pub binary : Lowers → (Expr → Option Interval) → Around → ℕ → ℕ → BinaryOp → Expr → Expr → Lowered
 binary inner ranges a level at o x y =
     let left = settled a level (inner level at x) in
-    let start = at + (length left.code + size_between o) in
-    joined a level at o (may_be_negative (ranges x)) left
-        (divisor a (suc level) start (is_division o && may_be_zero (ranges y)) (inner (suc level) start y))
+    operated a level at o (ranges x) (ranges y) left (inner (suc level) (start_of at o left) y)
 
 -- code for a node at a place, where the temporaries below a level are held
 abbrev pub lowered_node : Lowers → (Expr → Option Interval) → Around → ℕ → ℕ → Node-F Node Select Expr Target → Lowered

@@ -4,15 +4,15 @@ ghost use Rattle.std.specs.Option.{option_copied};
 ghost use Rattle.og_model.specs.declared.Node.{out-Node};
 ghost use Rattle.og_ranges.specs.Calls.{data_of, interval_if};
 ghost use Rattle.og_ranges.specs.Ranges.{range_of};
-ghost use Rattle.og_expr.specs.Lowering.{lowered, lowered_within, lowered_node, is_simple as is_simple_expression, is_simple_within as is_simple_to, is_simple_node as is_simple_inside, is_cell as is_cell_target, is_cell_sort as is_sort_of_cell};
+ghost use Rattle.og_expr.specs.Lowering.{lowered, lowered_within, lowered_node, start_of, operated as operated_value, is_simple as is_simple_expression, is_simple_within as is_simple_to, is_simple_node as is_simple_inside, is_cell as is_cell_target, is_cell_sort as is_sort_of_cell};
 ghost use Rattle.og_expr.specs.Calls.{around_of};
 
 use crate::instructions::{literal, slot_of, sum_of};
 use crate::operators::{
-    divisor, is_division, joined, may_be_negative, may_be_zero, plain, settled, size_between, unary,
+    divisor, is_tested, joined, may_be_negative, plain, settled, size_between, unary,
 };
 use crate::{Lowered, Operand, Surroundings};
-use og_model::{Expr, Node, Target};
+use og_model::{BinaryOp, Expr, Node, Target};
 use og_names::NoMemory;
 use og_ranges::{Declared, Interval, range, sort_of_target};
 use og_types::Sort;
@@ -79,16 +79,44 @@ fn lower_node(
         Node::Binary(op, left, right) => {
             let x = lower_within(alloc, depth, around, level, at, left.get())?;
             let x = settled(alloc, around, level, x)?;
-            let start = sum_of(at, sum_of(x.code.len(), size_between(*op))?)?;
+            let start = start_of_right(at, *op, &x)?;
             let above = sum_of(level, 1)?;
             let y = lower_within(alloc, depth, around, above, start, right.get())?;
-            let tested = is_division(*op) && may_be_zero(interval_of(around.declared, right.get()));
-            let y = divisor(alloc, around, above, start, tested, y)?;
-            let negative = may_be_negative(interval_of(around.declared, left.get()));
-            joined(alloc, around, level, at, *op, negative, x, y)
+            let intervals = (
+                interval_of(around.declared, left.get()),
+                interval_of(around.declared, right.get()),
+            );
+            operated(alloc, around, level, at, *op, intervals, x, y)
         }
         _ => Ok(plain(alloc, literal(0))),
     }
+}
+
+/// Where the right operand's code begins.
+fn start_of_right(at: usize, op: BinaryOp, left: &Lowered) -> Result<usize, NoMemory>
+    ensures { IfOk result (λ start. start ≡ start_of at op left.now) }
+{
+    sum_of(at, sum_of(left.code.len(), size_between(op))?)
+}
+
+/// Two operands under an operator, the left one in the temporary of its level. A divisor is tested where its interval has 0.
+fn operated(
+    alloc: Global,
+    around: Surroundings,
+    level: usize,
+    at: usize,
+    op: BinaryOp,
+    intervals: (Option<Interval>, Option<Interval>),
+    left: Lowered,
+    right: Lowered,
+) -> Result<Lowered, NoMemory>
+    ensures { IfOk result (λ made. made ≡ operated_value (around_of around.entry) level at op intervals.0 intervals.1 left right) }
+{
+    let start = start_of_right(at, op, &left)?;
+    let tested = is_tested(op, intervals.1);
+    let negative = may_be_negative(intervals.0);
+    let right = divisor(alloc, around, sum_of(level, 1)?, start, tested, right)?;
+    joined(alloc, around, level, at, op, negative, left, right)
 }
 
 /// The interval of an expression, where no part of it violates a rule.

@@ -1,7 +1,7 @@
 //! What is done with the values of operands.
 ghost use Rattle.std.specs.Prelude.{◌≡◌, ◌++◌, [], ◌∷◌, IfOk, OnOk};
 ghost use Rattle.og_model.specs.declared.BinaryOp.TheVariants.{Mod};
-ghost use Rattle.og_expr.specs.Lowering.{plain as plain_value, in_temporary as in_temporary_of, settled as settled_value, may_be_zero as may_be_0, may_be_negative as may_be_below_0, divisor as divisor_value, changed as changed_code, compared as compared_code, kept_at as kept_instr, ending as ending_code, between as between_code, size_between as size_between_code, is_division as is_division_op, joined as joined_value, less as less_value, set as set_instr, unary as unary_value};
+ghost use Rattle.og_expr.specs.Lowering.{plain as plain_value, in_temporary as in_temporary_of, settled as settled_value, may_be_zero as may_be_0, may_be_negative as may_be_below_0, divisor as divisor_value, changed as changed_code, compared as compared_code, kept_at as kept_instr, ending as ending_code, between as between_code, size_between as size_between_code, is_division as is_division_op, is_tested as is_tested_divisor, joined as joined_value, less as less_value, set as set_instr, unary as unary_value};
 ghost use Rattle.og_expr.specs.Calls.{around_of};
 
 use crate::instructions::{
@@ -84,8 +84,15 @@ pub fn divisor(
     in_temporary(level, code, x.temps)
 }
 
+/// Whether the operator divides, and the right operand may be 0.
+pub fn is_tested(op: BinaryOp, right: Option<Interval>) -> bool
+    ensures { result ≡ is_tested_divisor op right }
+{
+    is_division(op) && may_be_zero(right)
+}
+
 /// Whether a number of the interval may be 0.
-pub fn may_be_zero(interval: Option<Interval>) -> bool
+fn may_be_zero(interval: Option<Interval>) -> bool
     ensures { result ≡ may_be_0 interval }
 {
     match interval {
@@ -103,7 +110,7 @@ pub fn may_be_negative(interval: Option<Interval>) -> bool
     }
 }
 
-pub fn is_division(op: BinaryOp) -> bool
+fn is_division(op: BinaryOp) -> bool
     ensures { result ≡ is_division_op op }
 {
     matches!(op, BinaryOp::Div | BinaryOp::Mod | BinaryOp::Rem)
