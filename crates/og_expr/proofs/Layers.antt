@@ -1,7 +1,10 @@
 -- The code of an expression by the depth that is left.
-use Rattle.std.proofs.Common.{◌≡◌, ℕ, zero, suc, ◌+◌, ◌-◌, Option, refl, ap, ◌∙◌, arith}
+use Rattle.std.proofs.Common.{◌≡◌, ℕ, zero, suc, ◌+◌, ◌-◌, Option, refl, sym, ap, ◌∙◌, arith}
 use Rattle.og_model.specs.declared.Expr.{Expr}
-use Rattle.og_model.specs.declared.Node.{out-Node}
+use Rattle.og_model.specs.declared.Node.{Node, Node-F, out-Node}
+use Rattle.og_model.specs.declared.Node.TheOpen as Nodes
+use Rattle.og_model.specs.declared.Select.{Select}
+use Rattle.og_model.specs.declared.Target.{Target}
 use Rattle.og_model.specs.declared.BinaryOp.{BinaryOp}
 use Rattle.og_ranges.specs.declared.Interval.{Interval}
 use Rattle.og_ranges.specs.Ranges.{range_of}
@@ -32,3 +35,10 @@ operands_are inner ranges a level at above start o e f left x y first kept up be
 
     both : (m n : ℕ) → m ≡ suc level → n ≡ start_of at o x → inner m n f ≡ inner (suc level) (start_of at o x) f
     both m n p q = ap (λ (k : ℕ). inner k n f) p ∙ ap (λ (k : ℕ). inner (suc level) k f) q
+
+pub binary_is : (inner : Lowers) (ranges : Expr → Option Interval) (a : Around) (level at above start : ℕ) (o : BinaryOp) (e f : Expr) (left x y : Lowered) (i j : Option Interval)
+    (node : Node-F Node Select Expr Target) → node ≡ Nodes.Binary o e f → left ≡ inner level at e → x ≡ settled a level left → above ≡ level + 1 → start ≡ start_of at o x
+    → y ≡ inner above start f → i ≡ ranges e → j ≡ ranges f → operated a level at o i j x y ≡ lowered_node inner ranges a level at node
+binary_is inner ranges a level at above start o e f left x y i j node is first kept up begins second one two =
+    ap (λ (k : Option Interval). operated a level at o k j x y) one ∙ ap (λ (k : Option Interval). operated a level at o (ranges e) k x y) two
+    ∙ operands_are inner ranges a level at above start o e f left x y first kept up begins second ∙ sym (ap (lowered_node inner ranges a level at) is)
