@@ -1,3 +1,4 @@
 pub mod Lowering
 pub mod Calls
 pub mod Giving
+pub mod Examples

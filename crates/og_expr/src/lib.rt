@@ -1,6 +1,7 @@
 //! Expressions to flat code that gives their value, or leads to their fault.
 #![tactic(auto)]
 
+pub mod examples;
 mod instructions;
 mod lowering;
 mod operators;
