@@ -2,3 +2,4 @@ pub mod Lowering
 pub mod Calls
 pub mod Giving
 pub mod Examples
+pub mod Bounds

@@ -3,6 +3,7 @@
 
 pub mod examples;
 mod instructions;
+pub mod laws;
 mod lowering;
 mod operators;
 
