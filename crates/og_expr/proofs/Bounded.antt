@@ -1,5 +1,5 @@
--- The code of an expression has at most 40 instructions for each node.
-use Rattle.std.proofs.Common.{◌≡◌, ℕ, zero, suc, ◌+◌, ◌*◌, ◌≤◌, ℤ, Bool, true, false, List, [], ◌∷◌, ◌++◌, length, Option, refl, arith}
+-- The code of an expression has at most 40 instructions for each node, and at most one temporary more than it is deep.
+use Rattle.std.proofs.Common.{◌≡◌, ℕ, zero, suc, ◌+◌, ◌*◌, ◌≤◌, ℤ, Bool, true, false, List, [], ◌∷◌, ◌++◌, length, max, Option, refl, arith}
 use Rattle.std.proofs.lemmas.List.{length-append}
 use Rattle.og_model.specs.declared.BinaryOp.{BinaryOp}
 use Rattle.og_model.specs.declared.BinaryOp.TheVariants as Ops
@@ -22,7 +22,7 @@ use Rattle.og_expr.specs.declared.Operand.{Operand}
 use Rattle.og_expr.specs.declared.Operand.TheVariants.{Literal, Variable, Temporary}
 use Rattle.og_expr.specs.declared.Lowered.{Lowered}
 use Rattle.og_expr.specs.Lowering.{Around, Lowers, settle, settled, guard, divisor, lifted, ending, between, is_tested, may_be_negative, start_of, joined, operated, less, negated, unary, binary, lowered_node, lowered_within, lowered, flat_of, size_between}
-use Rattle.og_expr.specs.Bounds.{nodes_alone, nodes_of, CodeIsBounded}
+use Rattle.og_expr.specs.Bounds.{nodes_alone, nodes_of, CodeIsBounded, TemporariesAreFew}
 
 settle_length : (a : Around) (level : ℕ) (o : Operand) → length (settle a level o) ≤ 1
 settle_length a level (Literal z) = omega arith
@@ -163,3 +163,65 @@ bounded_within (suc n) a level at e = node_bounded n a (bounded_within n a) (λ 
 pub code_is_bounded : CodeIsBounded
 unfolding lowered nodes_of
 code_is_bounded a level at e = bounded_within 64 a level at e
+
+-- ---- temporaries
+
+abbrev Few : ℕ → Around → Type 0
+Few n a = (level at : ℕ) (e : Expr) → (lowered_within n a level at e).temps ≤ level + n + 1
+
+divisor_temps : (a : Around) (level at k : ℕ) (t : Bool) (y : Lowered) → suc level ≤ k → y.temps ≤ k → (divisor a level at t y).temps ≤ k
+divisor_temps a level at k false y above h = h
+divisor_temps a level at k true y above h = omega (arith, above, h)
+
+negated_temps : (a : Around) (level k : ℕ) (x : Lowered) (o : Operand) → suc level ≤ k → x.temps ≤ k → (negated a level x o).temps ≤ k
+negated_temps a level k x (Literal z) above h = omega arith
+negated_temps a level k x (Variable i) above h = omega (arith, above, h)
+negated_temps a level k x Temporary above h = omega (arith, above, h)
+
+unary_temps : (a : Around) (level k : ℕ) (o : UnaryOp) (x : Lowered) → suc level ≤ k → x.temps ≤ k → (unary a level o x).temps ≤ k
+unary_temps a level k Minus x above h = negated_temps a level k x x.value above h
+unary_temps a level k Not x above h = omega (arith, above, h)
+
+module _ (n : ℕ) (a : Around) (inner : Few n a) (ranges : Expr → Option Interval) where
+  both_few : (level at : ℕ) (o : BinaryOp) (e f : Expr) → (binary (lowered_within n a) ranges a level at o e f).temps ≤ level + suc n + 1
+  both_few level at o e f = by (inner level at e) (divisor_temps a (suc level) start (level + suc n + 1) (is_tested o (ranges f)) right (omega arith) (next (inner (suc level) start f)))
+    where
+      left : Lowered
+      left = settled a level (lowered_within n a level at e)
+
+      start : ℕ
+      start = start_of at o left
+
+      right : Lowered
+      right = lowered_within n a (suc level) start f
+
+      next : right.temps ≤ suc level + n + 1 → right.temps ≤ level + suc n + 1
+      next h = omega (arith, h)
+
+      by : (lowered_within n a level at e).temps ≤ level + n + 1 → (divisor a (suc level) start (is_tested o (ranges f)) right).temps ≤ level + suc n + 1
+          → (binary (lowered_within n a) ranges a level at o e f).temps ≤ level + suc n + 1
+      by p q = omega (arith, p, q)
+
+  node_few : (level at : ℕ) (o : Node-F Node Select Expr Target) → (lowered_node (lowered_within n a) ranges a level at o).temps ≤ level + suc n + 1
+  node_few level at (Nodes.Number z) = omega arith
+  node_few level at (Nodes.Truth t) = omega arith
+  node_few level at (Nodes.Item k) = omega arith
+  node_few level at (Nodes.Get t) = omega arith
+  node_few level at (Nodes.Length t) = omega arith
+  node_few level at (Nodes.Present t) = omega arith
+  node_few level at (Nodes.Unary o e) = unary_temps a level (level + suc n + 1) o (lowered_within n a level at e) (omega arith) (next (inner level at e))
+    where
+      next : (lowered_within n a level at e).temps ≤ level + n + 1 → (lowered_within n a level at e).temps ≤ level + suc n + 1
+      next h = omega (arith, h)
+  node_few level at (Nodes.Binary o e f) = both_few level at o e f
+  node_few level at (Nodes.Sequence es) = omega arith
+  node_few level at (Nodes.SeqOf es) = omega arith
+  node_few level at (Nodes.Choice k e) = omega arith
+
+few_within : (n : ℕ) (a : Around) → Few n a
+few_within zero a level at e = omega arith
+few_within (suc n) a level at e = node_few n a (few_within n a) (λ x. interval_if (range_of a.declared x)) level at (out-Node e.node)
+
+pub temporaries_are_few : TemporariesAreFew
+unfolding lowered
+temporaries_are_few a level at e = let h = few_within 64 a level at e in omega (arith, h)
