@@ -121,7 +121,6 @@ operated_length a level at o i j x y =
 abbrev Bounded : ℕ → Around → Type 0
 Bounded n a = (level at : ℕ) (e : Expr) → length (lowered_within n a level at e).code ≤ 40 * expression_within n nodes_alone e
 
-
 module _ (n : ℕ) (a : Around) (inner : Bounded n a) (ranges : Expr → Option Interval) where
   operands : (level at : ℕ) (o : BinaryOp) (e f : Expr)
       → length (binary (lowered_within n a) ranges a level at o e f).code ≤ 40 * (1 + expression_within n nodes_alone e + expression_within n nodes_alone f)

@@ -1,3 +1,4 @@
 pub mod Layers
 pub mod Worked
 pub mod Bounded
+pub mod Going

@@ -128,7 +128,7 @@ may_be_negative None = true
 abbrev pub divisor : Around → ℕ → ℕ → Bool → Lowered → Lowered
 divisor a level at tested y =
     cond tested (let x = settled a level y in
-        in_temporary level (x.code ++ guard a (at + length x.code) rel.Ne (a.temps level) Fault.Division) x.temps) y
+    in_temporary level (x.code ++ guard a (at + length x.code) rel.Ne (a.temps level) Fault.Division) x.temps) y
 
 -- ---- operators
 
@@ -198,9 +198,9 @@ joined a level at o negative left right =
     let behind = at + length left.code in
     let before = between a level behind o (length right.code) in
     in_temporary level
-        (((left.code ++ before) ++ right.code)
-            ++ ending a level (behind + (size_between o + length right.code)) o negative (flat_of a (suc level) right.value))
-        (max left.temps right.temps)
+    (((left.code ++ before) ++ right.code)
+    ++ ending a level (behind + (size_between o + length right.code)) o negative (flat_of a (suc level) right.value))
+    (max left.temps right.temps)
 
 -- ---- expressions
 

@@ -37,11 +37,7 @@ pub fn number(z: i64) -> Flat
 pub fn operation(alloc: Global, op: FlatOp, left: Flat, right: Flat) -> Result<Flat, NoMemory>
     ensures { IfOk result (λ made. made ≡ operation_flat op left right) }
 {
-    Ok(Flat::Op(
-        op,
-        Boxed::new(alloc, left)?,
-        Boxed::new(alloc, right)?,
-    ))
+    Ok(Flat::Op(op, Boxed::new(alloc, left)?, Boxed::new(alloc, right)?))
 }
 
 pub fn set(alloc: Global, base: u32, value: Flat) -> Instr

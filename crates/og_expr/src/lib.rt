@@ -8,7 +8,6 @@ mod lowering;
 mod operators;
 
 pub use lowering::{is_simple, lower_at};
-
 use og_ir::Instr;
 use og_ranges::Declared;
 use sqlite_items::Items;
