@@ -1,5 +1,5 @@
 -- The code of an expression has at most 40 instructions for each node, and at most one temporary more than it is deep.
-use Rattle.std.proofs.Common.{◌≡◌, ℕ, zero, suc, ◌+◌, ◌*◌, ◌≤◌, ℤ, Bool, true, false, List, [], ◌∷◌, ◌++◌, length, max, Option, refl, arith}
+use Rattle.std.proofs.Common.{ℕ, zero, suc, ◌+◌, ◌*◌, ◌≤◌, ℤ, Bool, true, false, List, ◌++◌, length, Option, arith}
 use Rattle.std.proofs.lemmas.List.{length-append}
 use Rattle.og_model.specs.declared.BinaryOp.{BinaryOp}
 use Rattle.og_model.specs.declared.BinaryOp.TheVariants as Ops
@@ -21,7 +21,7 @@ use Rattle.og_ranges.specs.Calls.{interval_if}
 use Rattle.og_expr.specs.declared.Operand.{Operand}
 use Rattle.og_expr.specs.declared.Operand.TheVariants.{Literal, Variable, Temporary}
 use Rattle.og_expr.specs.declared.Lowered.{Lowered}
-use Rattle.og_expr.specs.Lowering.{Around, Lowers, settle, settled, guard, divisor, lifted, ending, between, is_tested, may_be_negative, start_of, joined, operated, less, negated, unary, binary, lowered_node, lowered_within, lowered, flat_of, size_between}
+use Rattle.og_expr.specs.Lowering.{Around, settle, settled, guard, divisor, lifted, ending, between, is_tested, may_be_negative, start_of, joined, operated, less, negated, unary, binary, lowered_node, lowered_within, lowered, flat_of, size_between}
 use Rattle.og_expr.specs.Bounds.{nodes_alone, nodes_of, CodeIsBounded, TemporariesAreFew}
 
 settle_length : (a : Around) (level : ℕ) (o : Operand) → length (settle a level o) ≤ 1

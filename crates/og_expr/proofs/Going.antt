@@ -1,15 +1,10 @@
 -- Code that goes onward: stretches that are put together, and what a single instruction does.
-use Rattle.std.proofs.Common.{◌≡◌, ℕ, zero, suc, ◌+◌, ◌<◌, ◌≤◌, ℤ, Bool, true, false, if◌then◌else◌, List, [], ◌∷◌, ◌++◌, length, slice_get, Option, Some, None, Result, Ok, Err, refl, sym, ap, subst, ◌∙◌, arith}
+use Rattle.std.proofs.Common.{◌≡◌, ℕ, zero, suc, ◌+◌, ◌≤◌, List, [], ◌∷◌, ◌++◌, length, Option, Some, refl, sym, ap, subst, arith}
 use Rattle.og_ir.specs.declared.Instr.{Instr}
 use Rattle.og_ir.specs.declared.Instr.TheVariants as instr
-use Rattle.og_ir.specs.declared.Flat.{Flat}
-use Rattle.og_ir.specs.declared.FlatRel.{FlatRel}
-use Rattle.og_ir.specs.Cells.{Cells, Cell, global, change_global}
+use Rattle.og_ir.specs.Cells.{Cells, global, change_global}
 use Rattle.og_ir.specs.Arithmetic.{in_64_bits}
-use Rattle.og_ir.specs.FlatSteps.{value_of, flat_step, act, fetched, relation, holds}
-use Rattle.og_ir.specs.Steps as Steps
-use Rattle.og_ir.specs.Steps.{Running, Ran, quiet}
-use Rattle.og_expr.specs.Lowering.{slot, read, set}
+use Rattle.og_ir.specs.FlatSteps.{flat_step, act}
 use Rattle.og_expr.specs.Giving.{Where, at_place, Leads, Onward, StandsAt, IsCode}
 
 -- ---- stretches

@@ -1,5 +1,4 @@
 -- The worked examples of code, computed.
-use Rattle.std.specs.Prelude.{⊤}
 use Rattle.std.proofs.Common.{refl}
 use Rattle.og_model.proofs.Computing.{trees}
 use Rattle.og_ir.specs.declared.Flat.{out-Flat, roll-Flat}

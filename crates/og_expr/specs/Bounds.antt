@@ -1,5 +1,5 @@
--- How much code an expression has, and how many temporaries: at most 40 instructions for each node of it, and at most one
--- temporary more than it is deep.
+-- How much code an expression has, and how many temporaries: at most 40 instructions for each node of it, and at most
+-- one temporary more than it is deep.
 use Rattle.std.specs.Prelude.{ℕ, ◌+◌, ◌*◌, ◌≤◌, length}
 use Rattle.og_model.specs.declared.Expr.{Expr}
 use Rattle.og_model.specs.declared.Proc.{Proc}

@@ -1,6 +1,6 @@
--- Worked examples of code for expressions, computed from the definitions: `x` is one of 0 to 255, and `b` is a truth value.
--- Slot 0 tells the kind of a fault, `x` stands in slot 1, `b` in slot 2, and the temporaries are slots 3 to 5. The code of an
--- expression stands alone in a function, and a fault leads to its end. The text stands beside each.
+-- Worked examples of code for expressions, computed from the definitions: `x` is one of 0 to 255, and `b` is a truth
+-- value. Slot 0 tells the kind of a fault, `x` stands in slot 1, `b` in slot 2, and the temporaries are slots 3 to 5.
+-- The code of an expression stands alone in a function, and a fault leads to its end. The text stands beside each.
 use Rattle.std.specs.Prelude.{◌≡◌, ℕ, ◌+◌, false, List, [], ◌∷◌, length, ℤ, pos, negsuc, Option, Some, None, Result, Ok}
 use Rattle.og_base.specs.declared.Place.{Place}
 use Rattle.og_names.specs.declared.NameId.{NameId}

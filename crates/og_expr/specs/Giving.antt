@@ -1,8 +1,9 @@
--- What it is that code gives the value of an expression (Z.101 section 12.3), as the meaning says it, or its fault. From slots
--- that hold the values of the variables the code goes onward, from each place to a later one, to its end, where its operand
--- has the number of the value; or it leads to the place for faults, and the kind of the fault is told. It changes no slot but
--- the temporaries from its level on, and the slot of the fault's kind where there is a fault.
-use Rattle.std.specs.Prelude.{◌≡◌, ℕ, zero, suc, ◌+◌, ◌*◌, ◌<◌, ◌≤◌, ℤ, pos, Bool, true, List, [], ◌∷◌, length, slice_get, Option, Some, Result, Ok, Err, IsTrue}
+-- What it is that code gives the value of an expression (Z.101 section 12.3), as the meaning says it, or its fault.
+-- From slots that hold the values of the variables the code goes onward, from each place to a later one, to its end,
+-- where its operand has the number of the value; or it leads to the place for faults, and the kind of the fault is
+-- told. It changes no slot but the temporaries from its level on, and the slot of the fault's kind where there is a
+-- fault.
+use Rattle.std.specs.Prelude.{◌≡◌, ℕ, zero, suc, ◌+◌, ◌<◌, ◌≤◌, true, List, [], ◌∷◌, length, slice_get, Option, Some, Result, Ok, Err}
 use Rattle.og_types.specs.declared.TypeId.{TypeId}
 use Rattle.og_types.specs.declared.Value.{Value}
 use Rattle.og_types.specs.Table.{is_table}
@@ -10,7 +11,7 @@ use Rattle.og_model.specs.declared.VarId.{VarId}
 use Rattle.og_model.specs.declared.FaultKind.{FaultKind}
 use Rattle.og_model.specs.declared.Expr.{Expr}
 use Rattle.og_model.specs.Expressions.{Frame, Store, location_of, read, number_of, eval}
-use Rattle.og_model.specs.WellSorted.{Data, sort_of_variable, is_expression}
+use Rattle.og_model.specs.WellSorted.{sort_of_variable, is_expression}
 use Rattle.og_ir.specs.declared.Instr.{Instr}
 use Rattle.og_ir.specs.declared.Ir.{Ir}
 use Rattle.og_ir.specs.declared.FlatFn.{FlatFn}
@@ -85,7 +86,8 @@ pub record VariablesStand (a : Around) (b : Frame) (s : Store) (slots : List Cel
   pub each : (x : VarId) (id : TypeId) → sort_of_variable a.declared x ≡ Some id
       → HoldsValue a slots (slot_of a x) id (read s (location_of b x))
 
--- there are so many temporaries, none of them twice, and none of them a variable; and there is a slot for the fault's kind
+-- there are so many temporaries, none of them twice, and none of them a variable; and there is a slot for the fault's
+-- kind
 pub record HasRoom (a : Around) (room : ℕ) (slots : List Cells) : Type 0 where
   pub there : (m : ℕ) → m < room → a.temps m < length slots
   pub differ : (m n : ℕ) → m < room → n < room → a.temps m ≡ a.temps n → m ≡ n
@@ -117,8 +119,8 @@ abbrev pub Gives : {E : Type 0} → Where E → Around → (level room at : ℕ)
 Gives w a level room at x before (Ok v) = GivesValue w a level room at x before v
 Gives w a level room at x before (Err kind) = GivesFault w a level room at x before kind
 
--- The code of an expression that is built right and violates neither G1 nor G5, wherever it stands, gives the value or the fault
--- of the expression from every store that stands in the slots.
+-- The code of an expression that is built right and violates neither G1 nor G5, wherever it stands, gives the value
+-- or the fault of the expression from every store that stands in the slots.
 abbrev pub ExpressionsAreLowered : Type 0 → Type 0
 ExpressionsAreLowered E =
     (w : Where E) (a : Around) (b : Frame) (s : Store) (slots : List Cells) (level room at : ℕ) (e : Expr)

@@ -1,11 +1,11 @@
--- The code of an expression (Z.101 sections 12.2 and 12.3), as a function of the expression. Code of operands comes from left
--- to right, with a jump at each fault: so the first fault in this order is the one that is met. The left operand of a binary
--- operator stands in the temporary of its level, and the right one is a literal, a variable, or stands in the temporary
--- of the next level. Truth values are 0 and 1. What the interval of a number answers is not tested again. Two literals never
--- meet in one operation, since one of them is in a temporary: so no compiler sees a constant that divides by 0 or that
--- is compared with itself. So far only expressions over whole variables of one cell have code.
-use Rattle.std.specs.Prelude.{ℕ, zero, suc, ◌+◌, ℤ, pos, negsuc, neg_ℤ, int_lt, int_le, Bool, true, false, ◌&&◌, cond, List, [], ◌∷◌, ◌++◌, length, max, get_or, slice_get, Option, Some, None}
-use Rattle.og_types.specs.declared.TypeId.{TypeId}
+-- The code of an expression (Z.101 sections 12.2 and 12.3), as a function of the expression. Code of operands comes
+-- from left to right, with a jump at each fault: so the first fault in this order is the one that is met. The left
+-- operand of a binary operator stands in the temporary of its level, and the right one is a literal, a variable, or
+-- stands in the temporary of the next level. Truth values are 0 and 1. What the interval of a number answers is not
+-- tested again. Two literals never meet in one operation, since one of them is in a temporary: so no compiler sees a
+-- constant that divides by 0 or that is compared with itself. So far only expressions over whole variables of one
+-- cell have code.
+use Rattle.std.specs.Prelude.{ℕ, zero, suc, ◌+◌, ℤ, pos, neg_ℤ, int_lt, int_le, Bool, true, false, ◌&&◌, cond, List, [], ◌∷◌, ◌++◌, length, max, get_or, Option, Some, None}
 use Rattle.og_types.specs.declared.Sort.{Sort}
 use Rattle.og_types.specs.declared.Sort.TheVariants as Sorts
 use Rattle.og_types.specs.Table.{is_empty}
@@ -32,7 +32,6 @@ use Rattle.og_ir.specs.declared.FlatOp.{FlatOp}
 use Rattle.og_ir.specs.declared.FlatOp.TheVariants as op
 use Rattle.og_ir.specs.declared.FlatRel.{FlatRel}
 use Rattle.og_ir.specs.declared.FlatRel.TheVariants as rel
-use Rattle.og_ir.specs.declared.Test.{Test}
 use Rattle.og_ir.specs.Arithmetic.{in_64_bits}
 use Rattle.og_ranges.specs.declared.Interval.{Interval}
 use Rattle.og_ranges.specs.Ranges.{range_of, sort_of_target}
@@ -41,8 +40,8 @@ use Rattle.og_expr.specs.declared.Operand.{Operand}
 use Rattle.og_expr.specs.declared.Operand.TheVariants.{Literal, Variable, Temporary}
 use Rattle.og_expr.specs.declared.Lowered.{Lowered}
 
--- what the code stands among: the slots of the variables, the temporary of each level, the slot of a fault's kind, and the
--- place where a fault leads
+-- what the code stands among: the slots of the variables, the temporary of each level, the slot of a fault's kind,
+-- and the place where a fault leads
 pub record Around : Type 0 where
   pub declared : Data
   pub variables : List ℕ
@@ -284,6 +283,7 @@ abbrev pub is_simple_within : ℕ → Data → Expr → Bool
 is_simple_within zero d e = false
 is_simple_within (suc depth) d e = is_simple_node (is_simple_within depth d) d (out-Node e.node)
 
--- its variables have no selectors and one cell, and no part of it is a structured value, a length or an alternative's number
+-- its variables have no selectors and one cell, and no part of it is a structured value, a length or an alternative's
+-- number
 unfoldable pub is_simple : Data → Expr → Bool
 is_simple d e = is_simple_within 64 d e

@@ -1,4 +1,5 @@
-//! Worked examples, computed from the definitions. The function does nothing, and its contract says what the code gives.
+//! Worked examples, computed from the definitions. The function does nothing, and its contract says what the code
+//! gives.
 ghost use Rattle.og_expr.specs.Examples.{CodeGivesNumbers, CodeGivesTruths, CodeIsShort};
 
 /// Code for expressions, run from slots that hold their variables.

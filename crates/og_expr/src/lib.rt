@@ -20,7 +20,8 @@ pub enum Operand {
     Temporary,
 }
 
-/// The code of an expression, what has its value behind it, and how many temporaries there are up to the last that it uses.
+/// The code of an expression, what has its value behind it, and how many temporaries there are up to the last that it
+/// uses.
 #[derive(Drop)]
 pub struct Lowered {
     pub code: Items<Instr>,
@@ -28,8 +29,8 @@ pub struct Lowered {
     pub temps: usize,
 }
 
-/// What code stands among. `variables` and `locals` have the slot of each variable, `temps` that of each temporary; `kind` is the
-/// slot that tells the kind of a fault, and `fault` the place where faults lead.
+/// What code stands among. `variables` and `locals` have the slot of each variable, `temps` that of each temporary;
+/// `kind` is the slot that tells the kind of a fault, and `fault` the place where faults lead.
 #[derive(Clone, Copy)]
 pub struct Surroundings<'a> {
     pub declared: Declared<'a>,

@@ -99,7 +99,8 @@ fn start_of_right(at: usize, op: BinaryOp, left: &Lowered) -> Result<usize, NoMe
     sum_of(at, sum_of(left.code.len(), size_between(op))?)
 }
 
-/// Two operands under an operator, the left one in the temporary of its level. A divisor is tested where its interval has 0.
+/// Two operands under an operator, the left one in the temporary of its level. A divisor is tested where its interval
+/// has 0.
 fn operated(
     alloc: Global,
     around: Surroundings,
@@ -127,8 +128,8 @@ fn interval_of(declared: Declared, e: &Expr) -> Option<Interval>
     range(declared, e, &mut first)
 }
 
-/// Whether an expression has code so far: its variables have no selectors and one cell, and no part of it is a structured
-/// value, a length or the number of an alternative.
+/// Whether an expression has code so far: its variables have no selectors and one cell, and no part of it is a
+/// structured value, a length or the number of an alternative.
 #[tactic(auto, unfolding(crate::specs::Lowering::is_simple))]
 pub fn is_simple(declared: Declared, e: &Expr) -> bool
     ensures { result ≡ is_simple_expression (data_of declared.entry) e.now }

@@ -1,7 +1,7 @@
 use Rattle.std.proofs.Common.{◌≡◌, IfOk, sym, ap, ◌∙◌, subst}
 use Rattle.og_model.specs.declared.Expr.{Expr}
 use Rattle.og_model.specs.declared.Node.{out-Node}
-use Rattle.og_model.specs.declared.Node.TheViews.{outs-Unary, outs-Binary}
+use Rattle.og_model.specs.declared.Node.TheViews.{outs-Binary}
 use Rattle.og_ranges.specs.Ranges.{range_of}
 use Rattle.og_ranges.specs.Calls.{data_of, interval_if}
 use Rattle.og_expr.specs.declared.Lowered.{Lowered}
