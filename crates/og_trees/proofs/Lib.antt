@@ -1,0 +1,9 @@
+pub mod OneByOne
+pub mod EachModules
+pub mod OneText
+pub mod InPlace
+pub mod TreePlaces
+pub mod ShortNames
+pub mod Parts
+pub mod OneAnswer
+pub mod Worked

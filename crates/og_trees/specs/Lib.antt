@@ -1,0 +1,4 @@
+pub mod Reading
+pub mod Places
+pub mod Answers
+pub mod Examples
