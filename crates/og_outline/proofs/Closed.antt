@@ -7,7 +7,8 @@ use Rattle.std.proofs.lemmas.Bool.Decides.{nat_tests}
 use Rattle.og_base.specs.declared.Place.{Place}
 use Rattle.og_base.specs.declared.Violation.{Violation}
 use Rattle.og_base.specs.Order.{comes_before, first_from, first_of}
-use Rattle.og_names.proofs.Truths.{both_first, both_second, neither_first, same_value}
+use Rattle.og_names.proofs.Truths.{both_true, both_first, both_second, neither_first, same_value}
+use Rattle.og_ast.specs.declared.ground.HyphenedName.{HyphenedName}
 use Rattle.og_ast.specs.declared.ground.Name.{Name}
 use Rattle.og_ast.specs.declared.state.AggregationPart.{AggregationPart}
 use Rattle.og_ast.specs.declared.state.AggregationPart.TheOpen as open'
@@ -46,13 +47,13 @@ use Rattle.og_ast.specs.declared.transition.TerminatorKind.TheVariants as kind
 use Rattle.og_ast.specs.declared.transition.TerminatorTree.{TerminatorTree}
 use Rattle.og_ast.specs.declared.transition.TransitionTree.{TransitionTree, out-TransitionTree}
 use Rattle.og_forms.specs.declared.form.Form.TheVariants as form
-use Rattle.og_forms.specs.Forms.{Forms, at, when, maybe, is_any, are_several, in_label, call_form, is_value, in_assign, in_task, has_values, in_output, in_end, in_terminator, in_action, in_decision, in_step, in_transition, in_start, in_list, has_variables, in_enabling, in_input, in_part, in_state, in_dcl, in_connection, in_procedure, in_inner, in_composite, in_aggregation, in_block_part, in_system_part, in_unit, forms_in, unbuilt_in}
+use Rattle.og_forms.specs.Forms.{FormAt, Forms, is_built, at, when, maybe, is_any, are_several, in_label, call_form, is_value, in_assign, in_task, has_values, in_output, in_end, in_terminator, in_action, in_decision, in_step, in_transition, in_start, in_list, has_variables, in_enabling, in_input, in_part, in_state, in_dcl, in_connection, in_procedure, in_inner, in_composite, in_aggregation, in_block_part, in_system_part, in_unit, forms_in, unbuilt_in}
 use Rattle.og_forms.proofs.Built.{none_unbuilt}
 use Rattle.og_forms.proofs.Opens as forms
 use Rattle.og_system.specs.Bodies.{Home, Body, home_at, body_at, bodies_of_block_part, bodies_of_system_part, bodies_of_unit, bodies, foremost, process_of}
 use Rattle.og_system.specs.Closing.{does_last, closes, step_closes, action_closes, unclosed, without_start, within, is_plain_start, in_process, unclosed_in, first_unclosed}
 use Rattle.og_system.specs.Closing as closing
-use Rattle.og_system.specs.Ways.{has_any}
+use Rattle.og_system.specs.Ways.{has_any, same_place, Declaration, declaration, declared_in_block_part, declared_in_system_part, declared_in_unit, all_signals, Ways, ways, directed}
 use Rattle.og_system.proofs.Opens as closings
 use Rattle.og_outline.specs.declared.InputOutline.{InputOutline}
 use Rattle.og_outline.specs.declared.NextOutline.{NextOutline}
@@ -60,8 +61,8 @@ use Rattle.og_outline.specs.declared.StartOutline.{StartOutline}
 use Rattle.og_outline.specs.declared.StateOutline.{StateOutline}
 use Rattle.og_outline.specs.declared.StepOutline.{StepOutline}
 use Rattle.og_outline.specs.declared.StepOutline.TheVariants as step
-use Rattle.og_outline.specs.Outlines.{sent, steps_in_action, steps_in_step, steps_of, next_by, next_at, next_of, start_at, start_of, starts_in, starts_in_inner, received, input_at, inputs_in_part, state_at, state_by, state_of, states_in, states_in_inner, outline_of}
-use Rattle.og_outline.specs.Whole.{Paired, IsText, IsSent, IsStep, IsNext, IsTransition, IsStart, IsInput, IsState, ArePartsOf, no_part, then_start, then_state, IsWhole, is_filled_action, is_filled_step, is_filled_transition, is_filled_part, is_filled_list, is_filled_inner, is_filled}
+use Rattle.og_outline.specs.Outlines.{hyphened, sort_at, sort_of, signal_of, sent, steps_in_action, steps_in_step, steps_of, next_by, next_at, next_of, start_at, start_of, starts_in, starts_in_inner, received, input_at, inputs_in_part, state_at, state_by, state_of, states_in, states_in_inner, outline_of}
+use Rattle.og_outline.specs.Whole.{Paired, IsText, IsSent, IsStep, IsNext, IsTransition, IsStart, IsInput, IsState, ArePartsOf, no_part, then_start, then_state, IsSort, IsSignal, IsWhole, is_filled_action, is_filled_step, is_filled_transition, is_filled_part, is_filled_list, is_filled_inner_by, is_filled_inner, is_filled_process, is_filled_sort, is_filled_signal, is_filled_block_part, is_filled_system_part, is_filled_unit, are_filled}
 use Rattle.og_outline.proofs.BuiltForms.{Built, front_built, back_built, never, stands_not, call_not_kept}
 
 -- ---- lists
@@ -325,7 +326,7 @@ fits p q xs xs' ys ys' ps starts states is are all whole =
     (subst (λ zs. ArePartsOf (q ∷ ps) (xs' ++ starts) (zs ++ states)) (sym all) whole))
 
 whole_part : (p : InnerTree) (o : Standing) (ps : List InnerTree) (starts : List StartOutline) (states : List StateOutline) → out-InnerTree p ≡ o → Built (in_inner p) → closing.in_inner p ≡ []
-    → is_filled_inner o ≡ true → ArePartsOf ps starts states → ArePartsOf (p ∷ ps) (starts_in_inner p ++ starts) (states_in_inner p ++ states)
+    → is_filled_inner_by o ≡ true → ArePartsOf ps starts states → ArePartsOf (p ∷ ps) (starts_in_inner p ++ starts) (states_in_inner p ++ states)
 whole_part p (open'.InnerTree::Dcl dcl) ps starts states e built closed filled more =
     absurd (never form.Dcl dcl.place [] refl (stands p (Dcl dcl) (in_dcl dcl) (inner_is p _ e ∙ inner.rolls-Dcl dcl) (forms.of-Dcl-inner dcl) built))
 whole_part p (open'.InnerTree::Timer timer) ps starts states e built closed filled more =
@@ -349,13 +350,13 @@ whole_part p (open'.Aggregation a) ps starts states e built closed filled more =
 whole_part p (open'.Connection c) ps starts states e built closed filled more =
     absurd (never form.Connection c.place _ refl (stands p (Connection c) (in_connection c) (inner_is p _ e ∙ inner.rolls-Connection c) (forms.of-Connection-inner c) built))
 
-whole_parts : (ps : List InnerTree) → Built (flat_map in_inner ps) → flat_map closing.in_inner ps ≡ [] → list_all (λ p. is_filled_inner (out-InnerTree p)) ps ≡ true
+whole_parts : (ps : List InnerTree) → Built (flat_map in_inner ps) → flat_map closing.in_inner ps ≡ [] → list_all is_filled_inner ps ≡ true
     → ArePartsOf ps (flat_map starts_in_inner ps) (flat_map states_in_inner ps)
 whole_parts [] built closed filled = no_part
 whole_parts (p ∷ ps) built closed filled =
     whole_part p (out-InnerTree p) ps (flat_map starts_in_inner ps) (flat_map states_in_inner ps) refl (front_built (in_inner p) (flat_map in_inner ps) built)
-    (none_front (closing.in_inner p) (flat_map closing.in_inner ps) closed) (both_first (is_filled_inner (out-InnerTree p)) _ filled)
-    (whole_parts ps (back_built (in_inner p) (flat_map in_inner ps) built) (none_back (closing.in_inner p) (flat_map closing.in_inner ps) closed) (both_second (is_filled_inner (out-InnerTree p)) _ filled))
+    (none_front (closing.in_inner p) (flat_map closing.in_inner ps) closed) (both_first (is_filled_inner p) _ filled)
+    (whole_parts ps (back_built (in_inner p) (flat_map in_inner ps) built) (none_back (closing.in_inner p) (flat_map closing.in_inner ps) closed) (both_second (is_filled_inner p) _ filled))
 
 -- where a part is a START without a name, there is a start
 some_start : (ps : List InnerTree) (starts : List StartOutline) (states : List StateOutline) → ArePartsOf ps starts states → list_any is_plain_start ps ≡ true → has_any starts ≡ true
@@ -364,42 +365,122 @@ some_start ps starts states (then_start tree start is more) h = refl
 some_start ps starts states (then_state tree state {parts} {starts'} {states'} is more) h =
     some_start parts starts' states' more (sym (ap (λ b. b || list_any is_plain_start parts) (closings.starts-State tree)) ∙ h)
 
--- ---- the process is a body in the units
+-- ---- what holds in each unit
+
+each_joined : {Y : Type 0} (P : Y → Type 0) (xs ys : List Y) → AllByRecursion P xs → AllByRecursion P ys → AllByRecursion P (xs ++ ys)
+each_joined P [] ys p q = q
+each_joined P (x ∷ xs) ys p q = (p.0, each_joined P xs ys p.1 q)
+
+each_flat : {X Y : Type 0} (P : Y → Type 0) (test : X → Bool) (f : X → List Y) → ((x : X) → test x ≡ true → AllByRecursion P (f x)) → (xs : List X) → list_all test xs ≡ true → AllByRecursion P (flat_map f xs)
+each_flat P test f each [] h = tt
+each_flat P test f each (x ∷ xs) h = each_joined P (f x) (flat_map f xs) (each x (both_first (test x) (list_all test xs) h)) (each_flat P test f each xs (both_second (test x) (list_all test xs) h))
+
+each_mapped : {X Y : Type 0} (P : Y → Type 0) (test : X → Bool) (f : X → Y) → ((x : X) → test x ≡ true → P (f x)) → (xs : List X) → list_all test xs ≡ true → AllByRecursion P (map f xs)
+each_mapped P test f each [] h = tt
+each_mapped P test f each (x ∷ xs) h = (each x (both_first (test x) (list_all test xs) h), each_mapped P test f each xs (both_second (test x) (list_all test xs) h))
+
+of_first : (P : Body → Type 0) (bs : List Body) (body : Body) → AllByRecursion P bs → foremost bs ≡ Some body → P body
+of_first P [] body all h = cc
+of_first P (b ∷ bs) body all h = subst P (same_value b body h) all.0
+
+-- ---- the forms of a body
+
+-- of each of a list
+built_each : {X : Type 0} (forms : X → Forms) (xs : List X) → Built (flat_map forms xs) → list_all (λ x. list_all (λ (f : FormAt). is_built f.form) (forms x)) xs ≡ true
+built_each forms [] built = refl
+built_each forms (x ∷ xs) built = both_true _ _ (front_built (forms x) (flat_map forms xs) built) (built_each forms xs (back_built (forms x) (flat_map forms xs) built))
 
 abbrev IsBuilt : Body → Type 0
 IsBuilt body = Built (flat_map in_inner body.process.parts)
 
-each_joined : (xs ys : List Body) → AllByRecursion IsBuilt xs → AllByRecursion IsBuilt ys → AllByRecursion IsBuilt (xs ++ ys)
-each_joined [] ys p q = q
-each_joined (x ∷ xs) ys p q = (p.0, each_joined xs ys p.1 q)
+built_pieces : {X : Type 0} (forms : X → Forms) (f : X → List Body) → ((x : X) → Built (forms x) → AllByRecursion IsBuilt (f x)) → (xs : List X) → Built (flat_map forms xs) → AllByRecursion IsBuilt (flat_map f xs)
+built_pieces forms f each xs built = each_flat IsBuilt (λ x. list_all (λ (g : FormAt). is_built g.form) (forms x)) f each xs (built_each forms xs built)
 
-each_piece : {X : Type 0} (forms : X → Forms) (f : X → List Body) → ((x : X) → Built (forms x) → AllByRecursion IsBuilt (f x)) → (xs : List X) → Built (flat_map forms xs) → AllByRecursion IsBuilt (flat_map f xs)
-each_piece forms f each [] built = tt
-each_piece forms f each (x ∷ xs) built =
-    each_joined (f x) (flat_map f xs) (each x (front_built (forms x) (flat_map forms xs) built)) (each_piece forms f each xs (back_built (forms x) (flat_map forms xs) built))
+built_member : (home : Home) (p : BlockPart) → Built (in_block_part p) → AllByRecursion IsBuilt (bodies_of_block_part home p)
+built_member home (member.Signal signal) built = tt
+built_member home (member.Route route) built = tt
+built_member home (member.Link link) built = tt
+built_member home (member.Process process) built = (built, tt)
+built_member home (member.Reference reference) built = tt
 
-in_member : (home : Home) (p : BlockPart) → Built (in_block_part p) → AllByRecursion IsBuilt (bodies_of_block_part home p)
-in_member home (member.Signal signal) built = tt
-in_member home (member.Route route) built = tt
-in_member home (member.Link link) built = tt
-in_member home (member.Process process) built = (built, tt)
-in_member home (member.Reference reference) built = tt
+built_piece : (system : SystemTree) (p : SystemPart) → Built (in_system_part p) → AllByRecursion IsBuilt (bodies_of_system_part system p)
+built_piece system (piece.Use use') built = tt
+built_piece system (piece.Signal signal) built = tt
+built_piece system (piece.Channel channel) built = tt
+built_piece system (piece.Procedure procedure) built = tt
+built_piece system (piece.Block block) built = built_pieces in_block_part (bodies_of_block_part (home_at system block)) (built_member (home_at system block)) block.parts built
 
-in_piece : (system : SystemTree) (p : SystemPart) → Built (in_system_part p) → AllByRecursion IsBuilt (bodies_of_system_part system p)
-in_piece system (piece.Use use') built = tt
-in_piece system (piece.Signal signal) built = tt
-in_piece system (piece.Channel channel) built = tt
-in_piece system (piece.Procedure procedure) built = tt
-in_piece system (piece.Block block) built = each_piece in_block_part (bodies_of_block_part (home_at system block)) (in_member (home_at system block)) block.parts built
+built_unit : (u : UnitTree) → Built (in_unit u) → AllByRecursion IsBuilt (bodies_of_unit u)
+built_unit (unit.Use use') built = tt
+built_unit (unit.System system) built = built_pieces in_system_part (bodies_of_system_part system) (built_piece system) system.parts built
+built_unit (unit.Process process) built = (built, tt)
 
-in_one : (u : UnitTree) → Built (in_unit u) → AllByRecursion IsBuilt (bodies_of_unit u)
-in_one (unit.Use use') built = tt
-in_one (unit.System system) built = each_piece in_system_part (bodies_of_system_part system) (in_piece system) system.parts built
-in_one (unit.Process process) built = (built, tt)
+-- ---- a body that is filled
 
-of_first : (bs : List Body) (body : Body) → AllByRecursion IsBuilt bs → foremost bs ≡ Some body → IsBuilt body
-of_first [] body all h = cc
-of_first (b ∷ bs) body all h = subst IsBuilt (same_value b body h) all.0
+abbrev IsFull : Body → Type 0
+IsFull body = is_filled_process body.process ≡ true
+
+full_member : (home : Home) (p : BlockPart) → is_filled_block_part p ≡ true → AllByRecursion IsFull (bodies_of_block_part home p)
+full_member home (member.Signal signal) full = tt
+full_member home (member.Route route) full = tt
+full_member home (member.Link link) full = tt
+full_member home (member.Process process) full = (full, tt)
+full_member home (member.Reference reference) full = tt
+
+full_piece : (system : SystemTree) (p : SystemPart) → is_filled_system_part p ≡ true → AllByRecursion IsFull (bodies_of_system_part system p)
+full_piece system (piece.Use use') full = tt
+full_piece system (piece.Signal signal) full = tt
+full_piece system (piece.Channel channel) full = tt
+full_piece system (piece.Procedure procedure) full = tt
+full_piece system (piece.Block block) full = each_flat IsFull is_filled_block_part (bodies_of_block_part (home_at system block)) (full_member (home_at system block)) block.parts full
+
+full_unit : (u : UnitTree) → is_filled_unit u ≡ true → AllByRecursion IsFull (bodies_of_unit u)
+full_unit (unit.Use use') full = tt
+full_unit (unit.System system) full = each_flat IsFull is_filled_system_part (bodies_of_system_part system) (full_piece system) system.parts full
+full_unit (unit.Process process) full = (full, tt)
+
+-- ---- signals
+
+abbrev HasSorts : Declaration → Type 0
+HasSorts d = is_filled_signal d.signal ≡ true
+
+sorts_member : (visible : Bool) (p : BlockPart) → is_filled_block_part p ≡ true → AllByRecursion HasSorts (declared_in_block_part visible p)
+sorts_member visible (member.Signal signal) full = each_mapped HasSorts is_filled_signal (declaration visible) (λ x h. h) signal.signals full
+sorts_member visible (member.Route route) full = tt
+sorts_member visible (member.Link link) full = tt
+sorts_member visible (member.Process process) full = tt
+sorts_member visible (member.Reference reference) full = tt
+
+sorts_piece : (visible : Bool) (block : Place) (p : SystemPart) → is_filled_system_part p ≡ true → AllByRecursion HasSorts (declared_in_system_part visible block p)
+sorts_piece visible block (piece.Use use') full = tt
+sorts_piece visible block (piece.Signal signal) full = each_mapped HasSorts is_filled_signal (declaration visible) (λ x h. h) signal.signals full
+sorts_piece visible block (piece.Channel channel) full = tt
+sorts_piece visible block (piece.Procedure procedure) full = tt
+sorts_piece visible block (piece.Block other) full =
+    each_flat HasSorts is_filled_block_part (declared_in_block_part (same_place other.place block)) (sorts_member (same_place other.place block)) other.parts full
+
+sorts_unit : (system block : Place) (u : UnitTree) → is_filled_unit u ≡ true → AllByRecursion HasSorts (declared_in_unit system block u)
+sorts_unit system block (unit.Use use') full = tt
+sorts_unit system block (unit.System other) full =
+    each_flat HasSorts is_filled_system_part (declared_in_system_part (same_place other.place system) block) (sorts_piece (same_place other.place system) block) other.parts full
+sorts_unit system block (unit.Process process) full = tt
+
+one_sort : (tree : HyphenedName) (parts : List Name) → tree.parts ≡ parts → has_any parts ≡ true → One IsSort tree (sort_of tree)
+one_sort tree [] e full = absurd (false≢true full)
+one_sort tree (first ∷ more) e full = record {
+  y = record { place = first.place; word = record { bytes = first.word.bytes ++ hyphened more } };
+  are = ap sort_at e;
+  is = record { first = first; more = more; parts = e; at = refl; spelt = refl };
+}
+
+whole_sorts : (trees : List HyphenedName) → list_all is_filled_sort trees ≡ true → Paired IsSort trees (flat_map sort_of trees)
+whole_sorts [] full = tt
+whole_sorts (tree ∷ trees) full =
+    one_more IsSort sort_of tree trees (one_sort tree tree.parts refl (both_first (is_filled_sort tree) (list_all is_filled_sort trees) full)) (whole_sorts trees (both_second (is_filled_sort tree) (list_all is_filled_sort trees) full))
+
+whole_signals : (w : Option Ways) (ds : List Declaration) → AllByRecursion HasSorts ds → Paired IsSignal ds (map signal_of (map (directed w) ds))
+whole_signals w [] all = tt
+whole_signals w (d ∷ ds) all = (record { named = refl; seen = refl; sorts_are = whole_sorts d.signal.sorts all.0 }, whole_signals w ds all.1)
 
 -- ---- violations of which none comes first
 
@@ -421,12 +502,13 @@ no_first (v ∷ vs) h = absurd (some_stays v vs h)
 
 -- ---- outlines
 
-pub whole : (units : List UnitTree) (body : Body) (home : Home) → first_of (unbuilt_in units) ≡ None → process_of units ≡ Some body → first_unclosed units body.process ≡ None
-    → IsTrue (is_filled body.process) → IsWhole body.process (outline_of units body.process home)
-whole units body home built is closed filled =
+pub whole : (units : List UnitTree) (body : Body) (home : Home) → IsTrue (are_filled units) → first_of (unbuilt_in units) ≡ None → process_of units ≡ Some body → first_unclosed units body.process ≡ None
+    → IsWhole units body.process home (outline_of units body.process home)
+whole units body home full built is closed =
     let process : ProcessTree = body.process in
     let all : Built (forms_in units) = (none_unbuilt units).0 built in
-    let here : IsBuilt body = of_first (bodies units) body (each_piece in_unit bodies_of_unit in_one units all) is in
+    let here : IsBuilt body = of_first IsBuilt (bodies units) body (built_pieces in_unit bodies_of_unit built_unit units all) is in
+    let filled : IsFull body = of_first IsFull (bodies units) body (each_flat IsFull is_filled_unit bodies_of_unit full_unit units full) is in
     let none : in_process process ≡ [] = none_back (flat_map closing.in_unit units) (in_process process) (no_first (unclosed_in units process) closed) in
     let parts : ArePartsOf process.parts (flat_map starts_in_inner process.parts) (flat_map states_in_inner process.parts) =
         whole_parts process.parts here (none_back (without_start (list_any is_plain_start process.parts) process.name) (flat_map closing.in_inner process.parts) none) filled in
@@ -434,4 +516,6 @@ whole units body home built is closed filled =
       begins = some_start process.parts (flat_map starts_in_inner process.parts) (flat_map states_in_inner process.parts) parts
           (unless (list_any is_plain_start process.parts) _ (none_front (without_start (list_any is_plain_start process.parts) process.name) (flat_map closing.in_inner process.parts) none));
       parts_are = parts;
+      signals_are = whole_signals (ways process home) (all_signals units home)
+          (each_flat HasSorts is_filled_unit (declared_in_unit home.system.place home.block.place) (sorts_unit home.system.place home.block.place) units full);
     }

@@ -2,5 +2,6 @@ pub mod Opens
 pub mod Pieces
 pub mod BuiltForms
 pub mod Closed
+pub mod Filled
 pub mod Around
 pub mod Worked
