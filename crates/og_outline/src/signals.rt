@@ -14,7 +14,7 @@ use og_ast::{
 };
 use og_base::Place;
 use og_names::{NoMemory, Word};
-use og_system::{DirectedSignal, Home};
+use og_system::{DirectedSignal, Home, signals_of as directed_signals};
 use sqlite_items::Items;
 use std::alloc::Global;
 
@@ -29,7 +29,7 @@ pub fn signals_of(
 ) -> Result<Items<SignalOutline>, NoMemory>
     ensures { IfOk result (λ signals. signals ≡ signals_of units.now process.now (read_home home.now)) }
 {
-    let directed = og_system::signals_of(alloc, units, process, home)?;
+    let directed = directed_signals(alloc, units, process, home)?;
     let signals = outlined(alloc, directed.as_slice())?;
     Ok(signals)
 }
