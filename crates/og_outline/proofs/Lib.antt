@@ -2,6 +2,5 @@ pub mod Opens
 pub mod Pieces
 pub mod BuiltForms
 pub mod Closed
-pub mod Filled
 pub mod Around
 pub mod Worked

@@ -7,8 +7,6 @@ ghost use Rattle.og_forms.specs.Forms.{unbuilt_in};
 ghost use Rattle.og_system.specs.Scopes.{is_among, is_outside, seen_in_block};
 ghost use Rattle.og_system.specs.Bodies.{Body, Home as HomeOf, process_of};
 ghost use Rattle.og_system.specs.Closing.{first_unclosed};
-ghost use Rattle.og_lexer.specs.declared.Spanned.{Spanned};
-ghost use Rattle.og_parse.specs.Grammar.{AreUnits};
 ghost use Rattle.og_outline.specs.Outlines.{names_around, outline_of};
 ghost use Rattle.og_outline.specs.Whole.{IsWhole, are_filled};
 ghost use Rattle.og_outline.specs.Examples.{TextAndOutput, LeadsToAState, StopLeadsNowhere, ViaLeadsNowhere, OneStart, NamedStart, TwoHeaders, SeveralNames, HyphenedSort, SignalsOfRoutes, SameNameInTwoBlocks, Around, WholeOutline};
@@ -17,11 +15,6 @@ ghost use Rattle.og_outline.specs.Examples.{TextAndOutput, LeadsToAState, StopLe
 /// and of the signals is left out.
 pub fn outlines_are_closed()
     ensures { (units : List UnitTree) (body : Body) (home : HomeOf) → IsTrue (are_filled units) → first_of (unbuilt_in units) ≡ None → process_of units ≡ Some body → first_unclosed units body.process ≡ None → IsWhole units body.process home (outline_of units body.process home) }
-{}
-
-/// The trees of a text are filled.
-pub fn texts_are_filled()
-    ensures { (units : List UnitTree) (tokens : List Spanned) → AreUnits units tokens → IsTrue (are_filled units) }
 {}
 
 /// A declaration that is visible in the block of the process has a name exactly where the name is among those around the

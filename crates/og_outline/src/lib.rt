@@ -7,7 +7,7 @@ mod outlining;
 mod signals;
 mod transitions;
 
-pub use laws::{around_is_seen, outlines_are_closed, outlines_of_texts, texts_are_filled};
+pub use laws::{around_is_seen, outlines_are_closed, outlines_of_texts};
 pub use outlining::outline_of;
 
 use og_ast::Name;
