@@ -1,5 +1,5 @@
 -- Where each form is built and each transition closes, an outline leaves nothing of its process out.
-use Rattle.std.proofs.Common.{◌≡◌, ℕ, ◌≤◌, Bool, true, false, ◌&&◌, ◌||◌, nat_lt, if◌then◌else◌, List, [], ◌∷◌, ◌++◌, length, map, Option, Some, None, is_some, refl, sym, ap, subst, ◌∙◌, ◌⊎◌, inl, inr, arith}
+use Rattle.std.proofs.Common.{◌≡◌, ℕ, ◌≤◌, Bool, true, false, not, ◌&&◌, ◌||◌, nat_lt, if◌then◌else◌, List, [], ◌∷◌, ◌++◌, length, map, Option, Some, None, is_some, refl, sym, ap, subst, ◌∙◌, ◌⊎◌, inl, inr, arith}
 use Rattle.std.specs.Prelude.{IsTrue}
 use Rattle.std.specs.List.{flat_map, list_all, list_any, AllByRecursion}
 use Rattle.std.proofs.lemmas.Bool.{false≢true}
@@ -8,6 +8,7 @@ use Rattle.og_base.specs.declared.Place.{Place}
 use Rattle.og_base.specs.declared.Violation.{Violation}
 use Rattle.og_base.specs.Order.{comes_before, first_from, first_of}
 use Rattle.og_names.proofs.Truths.{both_true, both_first, both_second, neither_first, same_value}
+use Rattle.og_ast.specs.declared.expression.VarTree.{out-VarTree}
 use Rattle.og_ast.specs.declared.ground.HyphenedName.{HyphenedName}
 use Rattle.og_ast.specs.declared.ground.Name.{Name}
 use Rattle.og_ast.specs.declared.state.AggregationPart.{AggregationPart}
@@ -137,7 +138,7 @@ no_assign x true e xs place h =
     false≢true (sym (stands_not (list_any is_value (x ∷ xs)) form.Assignment place refl (front_built (when (list_any is_value (x ∷ xs)) form.Assignment place) (flat_map in_assign (x ∷ xs)) h)) ∙ ap (λ b. b || list_any is_value xs) e)
 no_assign x false e xs place h =
     let assigned : Built (in_assign x) = front_built (in_assign x) (flat_map in_assign xs) (back_built (when (list_any is_value (x ∷ xs)) form.Assignment place) (flat_map in_assign (x ∷ xs)) h) in
-    false≢true (sym (stands_not _ form.AssignedCall _ refl assigned) ∙ ap (λ b. if b then false else true) e)
+    false≢true (sym (stands_not (not (is_value x)) form.AssignedCall (out-VarTree x.target).name.place refl assigned) ∙ ap not e)
 
 no_task : (assigns : List AssignTree) (place : Place) → has_any assigns ≡ true → Built (in_task assigns place) → ⊥
 no_task [] place filled h = false≢true filled
@@ -359,11 +360,10 @@ whole_parts (p ∷ ps) built closed filled =
     (whole_parts ps (back_built (in_inner p) (flat_map in_inner ps) built) (none_back (closing.in_inner p) (flat_map closing.in_inner ps) closed) (both_second (is_filled_inner p) _ filled))
 
 -- where a part is a START without a name, there is a start
-some_start : (ps : List InnerTree) (starts : List StartOutline) (states : List StateOutline) → ArePartsOf ps starts states → list_any is_plain_start ps ≡ true → has_any starts ≡ true
-some_start ps starts states no_part h = absurd (false≢true h)
-some_start ps starts states (then_start tree start is more) h = refl
-some_start ps starts states (then_state tree state {parts} {starts'} {states'} is more) h =
-    some_start parts starts' states' more (sym (ap (λ b. b || list_any is_plain_start parts) (closings.starts-State tree)) ∙ h)
+some_start : {ps : List InnerTree} {starts : List StartOutline} {states : List StateOutline} → ArePartsOf ps starts states → list_any is_plain_start ps ≡ true → has_any starts ≡ true
+some_start no_part h = absurd (false≢true h)
+some_start (then_start tree start is more) h = refl
+some_start (then_state tree state {parts} is more) h = some_start more (sym (ap (λ b. b || list_any is_plain_start parts) (closings.starts-State tree)) ∙ h)
 
 -- ---- what holds in each unit
 
@@ -513,7 +513,7 @@ whole units body home full built is closed =
     let parts : ArePartsOf process.parts (flat_map starts_in_inner process.parts) (flat_map states_in_inner process.parts) =
         whole_parts process.parts here (none_back (without_start (list_any is_plain_start process.parts) process.name) (flat_map closing.in_inner process.parts) none) filled in
     record {
-      begins = some_start process.parts (flat_map starts_in_inner process.parts) (flat_map states_in_inner process.parts) parts
+      begins = some_start parts
           (unless (list_any is_plain_start process.parts) _ (none_front (without_start (list_any is_plain_start process.parts) process.name) (flat_map closing.in_inner process.parts) none));
       parts_are = parts;
       signals_are = whole_signals (ways process home) (all_signals units home)

@@ -3,6 +3,7 @@
 use Rattle.std.specs.Prelude.{◌≡◌, ℕ, ◌+◌, true, false, List, [], ◌∷◌, Option, Some, None, codes, refl}
 use Rattle.og_ast.specs.declared.ground.Name.{Name}
 use Rattle.og_ast.specs.declared.state.InnerTree.{InnerTree, Start, State}
+use Rattle.og_ast.specs.declared.state.InTree.{InTree}
 use Rattle.og_ast.specs.declared.state.ListTree.{ListTree}
 use Rattle.og_ast.specs.declared.state.ListTree.TheVariants as list
 use Rattle.og_ast.specs.declared.state.PartTree.{PartTree}
@@ -66,7 +67,7 @@ start n name t = Start (record { place = col n; name = name; «end» = end; tran
 abbrev input : ℕ → List Name → TransitionTree → PartTree
 input n signals t = part.Input (record { place = col n; inputs = ins signals; «end» = end; enabling = None; transition = t })
   where
-    ins : List Name → List _
+    ins : List Name → List InTree
     ins [] = []
     ins (x ∷ xs) = record { signal = x; variables = [] } ∷ ins xs
 
