@@ -34,7 +34,7 @@ use Rattle.og_ast.specs.declared.system.SystemPart.TheVariants as piece
 use Rattle.og_ast.specs.declared.system.SystemTree.{SystemTree}
 use Rattle.og_ast.specs.declared.system.Unit.{Unit as UnitTree}
 use Rattle.og_ast.specs.declared.system.Unit.TheVariants as unit
-use Rattle.og_ast.specs.declared.transition.ActionTree.{ActionTree, ActionTree-F, Informal, Task, Output, Call, Decision, out-ActionTree, roll-ActionTree, roll-out-ActionTree}
+use Rattle.og_ast.specs.declared.transition.ActionTree.{ActionTree, ActionTree-F, Output, out-ActionTree, roll-ActionTree, roll-out-ActionTree}
 use Rattle.og_ast.specs.declared.transition.ActionTree.TheOpen as action
 use Rattle.og_ast.specs.declared.transition.ActionTree.TheVariants.{rolls-Informal, rolls-Task, rolls-Output, rolls-Call, rolls-Decision}
 use Rattle.og_ast.specs.declared.transition.AssignTree.{AssignTree}
@@ -48,22 +48,21 @@ use Rattle.og_ast.specs.declared.transition.TerminatorKind.TheVariants as kind
 use Rattle.og_ast.specs.declared.transition.TerminatorTree.{TerminatorTree}
 use Rattle.og_ast.specs.declared.transition.TransitionTree.{TransitionTree, out-TransitionTree}
 use Rattle.og_forms.specs.declared.form.Form.TheVariants as form
-use Rattle.og_forms.specs.Forms.{FormAt, Forms, is_built, at, when, maybe, is_any, are_several, in_label, call_form, is_value, in_assign, in_task, has_values, in_output, in_end, in_terminator, in_action, in_decision, in_step, in_transition, in_start, in_list, has_variables, in_enabling, in_input, in_part, in_state, in_dcl, in_connection, in_procedure, in_inner, in_composite, in_aggregation, in_block_part, in_system_part, in_unit, forms_in, unbuilt_in}
+use Rattle.og_forms.specs.Forms.{FormAt, Forms, is_built, at, when, maybe, is_any, are_several, in_label, call_form, is_value, in_assign, in_task, has_values, in_output, in_end, in_terminator, in_action, in_decision, in_step, in_transition, in_start, in_list, has_variables, in_enabling, in_part, in_state, in_dcl, in_connection, in_procedure, in_inner, in_block_part, in_system_part, in_unit, forms_in, unbuilt_in}
 use Rattle.og_forms.proofs.Built.{none_unbuilt}
 use Rattle.og_forms.proofs.Opens as forms
-use Rattle.og_system.specs.Bodies.{Home, Body, home_at, body_at, bodies_of_block_part, bodies_of_system_part, bodies_of_unit, bodies, foremost, process_of}
+use Rattle.og_system.specs.Bodies.{Home, Body, home_at, bodies_of_block_part, bodies_of_system_part, bodies_of_unit, bodies, foremost, process_of}
 use Rattle.og_system.specs.Closing.{does_last, closes, step_closes, action_closes, unclosed, without_start, within, is_plain_start, in_process, unclosed_in, first_unclosed}
 use Rattle.og_system.specs.Closing as closing
 use Rattle.og_system.specs.Ways.{has_any, same_place, Declaration, declaration, declared_in_block_part, declared_in_system_part, declared_in_unit, all_signals, Ways, ways, directed}
 use Rattle.og_system.proofs.Opens as closings
-use Rattle.og_outline.specs.declared.InputOutline.{InputOutline}
 use Rattle.og_outline.specs.declared.NextOutline.{NextOutline}
 use Rattle.og_outline.specs.declared.StartOutline.{StartOutline}
 use Rattle.og_outline.specs.declared.StateOutline.{StateOutline}
 use Rattle.og_outline.specs.declared.StepOutline.{StepOutline}
 use Rattle.og_outline.specs.declared.StepOutline.TheVariants as step
-use Rattle.og_outline.specs.Outlines.{hyphened, sort_at, sort_of, signal_of, sent, steps_in_action, steps_in_step, steps_of, next_by, next_at, next_of, start_at, start_of, starts_in, starts_in_inner, received, input_at, inputs_in_part, state_at, state_by, state_of, states_in, states_in_inner, outline_of}
-use Rattle.og_outline.specs.Whole.{Paired, IsText, IsSent, IsStep, IsNext, IsTransition, IsStart, IsInput, IsState, ArePartsOf, no_part, then_start, then_state, IsSort, IsSignal, IsWhole, is_filled_action, is_filled_step, is_filled_transition, is_filled_part, is_filled_list, is_filled_inner_by, is_filled_inner, is_filled_process, is_filled_sort, is_filled_signal, is_filled_block_part, is_filled_system_part, is_filled_unit, are_filled}
+use Rattle.og_outline.specs.Outlines.{hyphened, sort_at, sort_of, signal_of, sent, steps_in_action, steps_in_step, steps_of, next_by, next_at, next_of, start_at, start_of, starts_in, starts_in_inner, received, input_at, inputs_in_part, state_by, state_of, states_in, states_in_inner, outline_of}
+use Rattle.og_outline.specs.Whole.{Paired, IsStep, IsNext, IsTransition, IsStart, IsInput, IsState, ArePartsOf, no_part, then_start, then_state, IsSort, IsSignal, IsWhole, is_filled_action, is_filled_step, is_filled_transition, is_filled_part, is_filled_list, is_filled_inner_by, is_filled_inner, is_filled_process, is_filled_sort, is_filled_signal, is_filled_block_part, is_filled_system_part, is_filled_unit, are_filled}
 use Rattle.og_outline.proofs.BuiltForms.{Built, front_built, back_built, never, stands_not, call_not_kept}
 
 -- ---- lists
@@ -121,8 +120,8 @@ one_sent : (s : StepTree) (outs : List OutTree) → s.label ≡ None → s.actio
 one_sent s [] plain does filled built = absurd (false≢true filled)
 one_sent s (out ∷ []) plain does filled built =
     let values : out.values ≡ [] =
-        none_any out.values (neither_first (has_values out) false (stands_not (list_any has_values (out ∷ [])) form.OutputValues s.place refl
-        (back_built (when (are_several (out ∷ [])) form.SeveralOutputs s.place) (when (list_any has_values (out ∷ [])) form.OutputValues s.place) built))) in
+    none_any out.values (neither_first (has_values out) false (stands_not (list_any has_values (out ∷ [])) form.OutputValues s.place refl
+    (back_built (when (are_several (out ∷ [])) form.SeveralOutputs s.place) (when (list_any has_values (out ∷ [])) form.OutputValues s.place) built))) in
     record {
       y = step.Output out.signal;
       are = refl;
@@ -337,12 +336,12 @@ whole_part p (open'.InnerTree::Procedure procedure) ps starts states e built clo
 whole_part p (open'.Start start) ps starts states e built closed filled more =
     let is : p ≡ Start start = inner_is p (open'.Start start) e ∙ inner.rolls-Start start in
     let one : One IsStart start (start_of start) =
-        one_start start (stands p (Start start) (in_start start) is (forms.of-Start-inner start) built) (sym (ap (λ q. (within q).1) is ∙ closings.in-Start start) ∙ closed) filled in
+    one_start start (stands p (Start start) (in_start start) is (forms.of-Start-inner start) built) (sym (ap (λ q. (within q).1) is ∙ closings.in-Start start) ∙ closed) filled in
     fits p (Start start) (starts_in_inner p) (one.y ∷ []) (states_in_inner p) [] ps starts states is (ap starts_in e ∙ one.are) (ap states_in e) (then_start start one.y one.is more)
 whole_part p (open'.State state) ps starts states e built closed filled more =
     let is : p ≡ State state = inner_is p (open'.State state) e ∙ inner.rolls-State state in
     let one : One IsState state (state_of state) =
-        whole_state state (stands p (State state) (in_state state) is (forms.of-State-inner state) built) (sym (ap (λ q. (within q).1) is ∙ closings.in-State state) ∙ closed) filled in
+    whole_state state (stands p (State state) (in_state state) is (forms.of-State-inner state) built) (sym (ap (λ q. (within q).1) is ∙ closings.in-State state) ∙ closed) filled in
     fits p (State state) (starts_in_inner p) [] (states_in_inner p) (one.y ∷ []) ps starts states is (ap starts_in e) (ap states_in e ∙ one.are) (then_state state one.y one.is more)
 whole_part p (open'.InnerTree::Composite c) ps starts states e built closed filled more =
     absurd (never form.CompositeState c.place _ refl (stands p (Composite c) (at form.CompositeState c.place ∷ flat_map in_inner c.parts) (inner_is p _ e ∙ inner.rolls-Composite c) (forms.of-Composite-inner c ∙ forms.of-composite c) built))
@@ -511,7 +510,7 @@ whole units body home full built is closed =
     let filled : IsFull body = of_first IsFull (bodies units) body (each_flat IsFull is_filled_unit bodies_of_unit full_unit units full) is in
     let none : in_process process ≡ [] = none_back (flat_map closing.in_unit units) (in_process process) (no_first (unclosed_in units process) closed) in
     let parts : ArePartsOf process.parts (flat_map starts_in_inner process.parts) (flat_map states_in_inner process.parts) =
-        whole_parts process.parts here (none_back (without_start (list_any is_plain_start process.parts) process.name) (flat_map closing.in_inner process.parts) none) filled in
+    whole_parts process.parts here (none_back (without_start (list_any is_plain_start process.parts) process.name) (flat_map closing.in_inner process.parts) none) filled in
     record {
       begins = some_start parts
           (unless (list_any is_plain_start process.parts) _ (none_front (without_start (list_any is_plain_start process.parts) process.name) (flat_map closing.in_inner process.parts) none));

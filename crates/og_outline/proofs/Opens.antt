@@ -1,5 +1,5 @@
 -- What each part of a process, and each action, gives to the outline.
-use Rattle.std.proofs.Common.{◌≡◌, List, [], ◌∷◌, map, refl, ap}
+use Rattle.std.proofs.Common.{◌≡◌, List, [], ◌∷◌, map, ap}
 use Rattle.og_base.specs.declared.Place.{Place}
 use Rattle.og_ast.specs.declared.data.DclTree.{DclTree}
 use Rattle.og_ast.specs.declared.data.TimerTree.{TimerTree}
@@ -8,11 +8,11 @@ use Rattle.og_ast.specs.declared.procedure.ConnectionTree.{ConnectionTree}
 use Rattle.og_ast.specs.declared.procedure.ProcedureTree.{ProcedureTree}
 use Rattle.og_ast.specs.declared.state.AggregationTree.{AggregationTree}
 use Rattle.og_ast.specs.declared.state.CompositeTree.{CompositeTree}
-use Rattle.og_ast.specs.declared.state.InnerTree.{InnerTree, Dcl, Timer, Procedure, Start, State, Composite, Aggregation, Connection}
+use Rattle.og_ast.specs.declared.state.InnerTree.{Dcl, Timer, Procedure, Start, State, Composite, Aggregation, Connection}
 use Rattle.og_ast.specs.declared.state.InnerTree.TheVariants as inner
 use Rattle.og_ast.specs.declared.state.StartTree.{StartTree}
 use Rattle.og_ast.specs.declared.state.StateTree.{StateTree}
-use Rattle.og_ast.specs.declared.transition.ActionTree.{ActionTree, Informal, Task, Output, Call, Decision, out-ActionTree}
+use Rattle.og_ast.specs.declared.transition.ActionTree.{Informal, Task, Output, Call, Decision, out-ActionTree}
 use Rattle.og_ast.specs.declared.transition.ActionTree.TheVariants as action
 use Rattle.og_ast.specs.declared.transition.AssignTree.{AssignTree}
 use Rattle.og_ast.specs.declared.transition.CallTree.{CallTree}

@@ -4,14 +4,12 @@ use Rattle.std.specs.Prelude.{◌≡◌, ℕ, ◌+◌, true, false, List, [], �
 use Rattle.og_ast.specs.declared.ground.Name.{Name}
 use Rattle.og_ast.specs.declared.state.InnerTree.{InnerTree, Start, State}
 use Rattle.og_ast.specs.declared.state.InTree.{InTree}
-use Rattle.og_ast.specs.declared.state.ListTree.{ListTree}
 use Rattle.og_ast.specs.declared.state.ListTree.TheVariants as list
 use Rattle.og_ast.specs.declared.state.PartTree.{PartTree}
 use Rattle.og_ast.specs.declared.state.PartTree.TheVariants as part
 use Rattle.og_ast.specs.declared.system.BlockPart.{BlockPart}
 use Rattle.og_ast.specs.declared.system.BlockPart.TheVariants as member
 use Rattle.og_ast.specs.declared.system.BlockTree.{BlockTree}
-use Rattle.og_ast.specs.declared.system.PathTree.{PathTree}
 use Rattle.og_ast.specs.declared.system.PointTree.TheVariants as point
 use Rattle.og_ast.specs.declared.system.ProcessTree.{ProcessTree}
 use Rattle.og_ast.specs.declared.system.SigTree.{SigTree}
@@ -27,8 +25,6 @@ use Rattle.og_ast.specs.declared.transition.TerminatorTree.{TerminatorTree}
 use Rattle.og_ast.specs.declared.transition.TransitionTree.{TransitionTree, roll-TransitionTree}
 use Rattle.og_system.specs.Bodies.{home_at}
 use Rattle.og_system.specs.Examples.{col, p_at, q_at, b_at, g_at, c_at, r_at, s_at, end, closed, path, env, refers_to}
-use Rattle.og_outline.specs.declared.NextOutline.{NextOutline}
-use Rattle.og_outline.specs.declared.SortOutline.{SortOutline}
 use Rattle.og_outline.specs.declared.StepOutline.TheVariants as step
 use Rattle.og_outline.specs.Outlines.{sort_of, signals_of, names_around, steps_of, next_of, starts_of, states_of, outline_of}
 

@@ -8,11 +8,10 @@ mod signals;
 mod transitions;
 
 pub use laws::{around_is_seen, outlines_are_closed, outlines_of_texts};
-pub use outlining::outline_of;
-
 use og_ast::Name;
 use og_base::Place;
 use og_names::Word;
+pub use outlining::outline_of;
 use sqlite_items::Items;
 
 /// What the process says, and what stands around it. It is the outline of texts whose forms are all built.

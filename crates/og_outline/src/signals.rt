@@ -9,9 +9,7 @@ ghost use Rattle.og_outline.specs.Outlines.{hyphened, sort_at, sort_of, signal_o
 
 use crate::copies::{add_name, copy_name};
 use crate::{SignalOutline, SortOutline};
-use og_ast::{
-    BlockPart, HyphenedName, Name, ProcessTree, SigTree, SystemPart, Unit,
-};
+use og_ast::{BlockPart, HyphenedName, Name, ProcessTree, SigTree, SystemPart, Unit};
 use og_base::Place;
 use og_names::{NoMemory, Word};
 use og_system::{DirectedSignal, Home, signals_of as directed_signals};
@@ -82,11 +80,7 @@ fn add_sorts(
     Ok(())
 }
 
-fn add_sort(
-    alloc: Global,
-    sorts: &mut Items<SortOutline>,
-    parts: &[Name],
-) -> Result<(), NoMemory>
+fn add_sort(alloc: Global, sorts: &mut Items<SortOutline>, parts: &[Name]) -> Result<(), NoMemory>
     ensures { OnOk result (sorts.new ≡ sorts.old ++ sort_at parts.now) }
 {
     if let [first, more @ ..] = parts {
@@ -121,11 +115,7 @@ fn add_hyphened(alloc: Global, bytes: &mut Items<u8>, names: &[Name]) -> Result<
 // ---- names that are visible
 
 /// The names of all that is visible in a block.
-pub fn names_around(
-    alloc: Global,
-    units: &[Unit],
-    home: &Home<'_>,
-) -> Result<Items<Name>, NoMemory>
+pub fn names_around(alloc: Global, units: &[Unit], home: &Home<'_>) -> Result<Items<Name>, NoMemory>
     ensures { IfOk result (λ names. names ≡ names_around units.now (read_home home.now)) }
 {
     let mut names = Items::new(alloc);
