@@ -14,7 +14,7 @@ use Rattle.og_system.specs.declared.ways as code
 use Rattle.og_system.specs.Scopes.{routes_in_block}
 use Rattle.og_system.specs.Bodies.{Home}
 use Rattle.og_system.specs.Tables.{is_in, with_names}
-use Rattle.og_system.specs.Ways.{Ways, Directed, is_at, is_named, along, has_any, ways, carried, carried_to, carried_from, paths_of_routes, paths_of_channels, directed, directed_signals, all_signals}
+use Rattle.og_system.specs.Ways.{Ways, Declaration, declaration, Directed, is_at, is_named, along, has_any, ways, carried, carried_to, carried_from, paths_of_routes, paths_of_channels, directed, directed_signals, all_signals}
 use Rattle.og_system.specs.WayTables.{nothing_carried, with_path, with_paths, way_tables, directed_by}
 use Rattle.og_system.proofs.Adding.{with_both}
 use Rattle.og_system.proofs.ByTables.{in_names}
@@ -142,51 +142,53 @@ both_is : (name : Name) (tables : code.WayTables.WayTables) (paths : List PathTr
 both_is name tables [] = refl
 both_is name tables (p ∷ ps) = both_is name (with_path name tables p) ps
 
-directed_is : (w : Option Ways) (signal : SigTree) → directed_by (way_tables w) signal ≡ directed w signal
-directed_is None signal = refl
-directed_is (Some w) signal =
+directed_is : (w : Option Ways) (d : Declaration) → directed_by (way_tables w) d ≡ directed w d
+directed_is None d = refl
+directed_is (Some w) d =
     let none = nothing_carried false in
     let both = both_is w.name none w.paths in
-    let to = ap (λ t. is_in t signal.name) (incoming_is w.name none w.paths) ∙ in_names (flat_map (carried_to w.name) w.paths) signal.name in
-    let from = ap (λ t. is_in t signal.name) (outgoing_is w.name none w.paths) ∙ in_names (flat_map (carried_from w.name) w.paths) signal.name in
-    λ i. record { signal = signal; incoming = both i || to i; outgoing = both i || from i }
+    let to = ap (λ t. is_in t d.signal.name) (incoming_is w.name none w.paths) ∙ in_names (flat_map (carried_to w.name) w.paths) d.signal.name in
+    let from = ap (λ t. is_in t d.signal.name) (outgoing_is w.name none w.paths) ∙ in_names (flat_map (carried_from w.name) w.paths) d.signal.name in
+    λ i. record { signal = d.signal; visible = d.visible; incoming = both i || to i; outgoing = both i || from i }
 
-pub signals_are : (units : List UnitTree) (process : ProcessTree) (home : Home) → map (directed_by (way_tables (ways process home))) (all_signals units) ≡ directed_signals units process home
-signals_are units process home = ap (λ (d : SigTree → Directed). map d (all_signals units)) (fun_ext (directed_is (ways process home)))
+pub signals_are : (units : List UnitTree) (process : ProcessTree) (home : Home) → map (directed_by (way_tables (ways process home))) (all_signals units home) ≡ directed_signals units process home
+signals_are units process home = ap (λ (d : Declaration → Directed). map d (all_signals units home)) (fun_ext (directed_is (ways process home)))
 
 -- ---- loops over signals, which are listed with their directions
 
-pub record Listing {X : Type 0} (d : SigTree → Directed) (f : X → List SigTree) (xs : List X) (i : ℕ) (now first : List Directed) : Type 0 where
+pub record Listing {X : Type 0} (d : Declaration → Directed) (f : X → List Declaration) (xs : List X) (i : ℕ) (now first : List Directed) : Type 0 where
   pub left : Left (λ ys. now ++ map d (flat_map f ys)) xs i (first ++ map d (flat_map f xs))
 
-pub listing_first : {X : Type 0} (d : SigTree → Directed) (f : X → List SigTree) (xs : List X) (first : List Directed) → Listing d f xs 0 first first
+pub listing_first : {X : Type 0} (d : Declaration → Directed) (f : X → List Declaration) (xs : List X) (first : List Directed) → Listing d f xs 0 first first
 listing_first d f xs first = record { left = left_first (λ ys. first ++ map d (flat_map f ys)) xs }
 
-pub listing_more : {X : Type 0} (d : SigTree → Directed) (f : X → List SigTree) (xs : List X) (i : ℕ) (x : X) (now next first : List Directed)
+pub listing_more : {X : Type 0} (d : Declaration → Directed) (f : X → List Declaration) (xs : List X) (i : ℕ) (x : X) (now next first : List Directed)
     → i < length xs → x ≡ get_or xs i x → next ≡ now ++ map d (f x) → Listing d f xs i now first → Listing d f xs (i + 1) next first
 listing_more d f xs i x now next first lt at is listing = record {
   left = left_more (λ ys. now ++ map d (flat_map f ys)) (λ ys. next ++ map d (flat_map f ys)) xs i x _ lt at
       (λ ys. ap (λ zs. now ++ zs) (map-append d (f x) (flat_map f ys)) ∙ sym (append_assoc now (map d (f x)) (map d (flat_map f ys))) ∙ ap (λ zs. zs ++ map d (flat_map f ys)) (sym is)) listing.left;
 }
 
-pub listing_all : {X : Type 0} (d : SigTree → Directed) (f : X → List SigTree) (xs : List X) (i : ℕ) (now first : List Directed)
+pub listing_all : {X : Type 0} (d : Declaration → Directed) (f : X → List Declaration) (xs : List X) (i : ℕ) (now first : List Directed)
     → length xs ≤ i → Listing d f xs i now first → now ≡ first ++ map d (flat_map f xs)
 listing_all d f xs i now first le listing = sym (append-nil now) ∙ left_all (λ ys. now ++ map d (flat_map f ys)) xs i _ le listing.left
 
-pub record ListingEach (d : SigTree → Directed) (xs : List SigTree) (i : ℕ) (now first : List Directed) : Type 0 where
-  pub left : Left (λ ys. now ++ map d ys) xs i (first ++ map d xs)
+-- the same, signal by signal, all of which are visible or none of which are
+pub record ListingEach (d : Declaration → Directed) (visible : Bool) (xs : List SigTree) (i : ℕ) (now first : List Directed) : Type 0 where
+  pub left : Left (λ ys. now ++ map d (map (declaration visible) ys)) xs i (first ++ map d (map (declaration visible) xs))
 
-pub listed_first : (d : SigTree → Directed) (xs : List SigTree) (first : List Directed) → ListingEach d xs 0 first first
-listed_first d xs first = record { left = left_first (λ ys. first ++ map d ys) xs }
+pub listed_first : (d : Declaration → Directed) (visible : Bool) (xs : List SigTree) (first : List Directed) → ListingEach d visible xs 0 first first
+listed_first d visible xs first = record { left = left_first (λ ys. first ++ map d (map (declaration visible) ys)) xs }
 
-pub listed_more : (d : SigTree → Directed) (xs : List SigTree) (i : ℕ) (x : SigTree) (now next first : List Directed)
-    → i < length xs → x ≡ get_or xs i x → next ≡ now ++ d x ∷ [] → ListingEach d xs i now first → ListingEach d xs (i + 1) next first
-listed_more d xs i x now next first lt at is listing = record {
-  left = left_more (λ ys. now ++ map d ys) (λ ys. next ++ map d ys) xs i x _ lt at
-      (λ ys. sym (append_assoc now (d x ∷ []) (map d ys)) ∙ ap (λ zs. zs ++ map d ys) (sym is)) listing.left;
+pub listed_more : (d : Declaration → Directed) (visible : Bool) (xs : List SigTree) (i : ℕ) (x : SigTree) (now next first : List Directed)
+    → i < length xs → x ≡ get_or xs i x → next ≡ now ++ d (declaration visible x) ∷ [] → ListingEach d visible xs i now first → ListingEach d visible xs (i + 1) next first
+listed_more d visible xs i x now next first lt at is listing = record {
+  left = left_more (λ ys. now ++ map d (map (declaration visible) ys)) (λ ys. next ++ map d (map (declaration visible) ys)) xs i x _ lt at
+      (λ ys. sym (append_assoc now (d (declaration visible x) ∷ []) (map d (map (declaration visible) ys))) ∙ ap (λ zs. zs ++ map d (map (declaration visible) ys)) (sym is)) listing.left;
 }
 
-pub listed_all : (d : SigTree → Directed) (xs : List SigTree) (i : ℕ) (now first : List Directed) → length xs ≤ i → ListingEach d xs i now first → now ≡ first ++ map d xs
-listed_all d xs i now first le listing = sym (append-nil now) ∙ left_all (λ ys. now ++ map d ys) xs i _ le listing.left
+pub listed_all : (d : Declaration → Directed) (visible : Bool) (xs : List SigTree) (i : ℕ) (now first : List Directed)
+    → length xs ≤ i → ListingEach d visible xs i now first → now ≡ first ++ map d (map (declaration visible) xs)
+listed_all d visible xs i now first le listing = sym (append-nil now) ∙ left_all (λ ys. now ++ map d (map (declaration visible) ys)) xs i _ le listing.left
 
 pub ruleset along_ways = (paths_both, passing_first, passing_more, passing_all, each_first, each_more, each_all, by_routes, by_channels, by_neither, any_each, any_kept_each, signals_are, listing_first, listing_more, listing_all, listed_first, listed_more, listed_all)

@@ -1,5 +1,5 @@
 -- Where no rule is violated, the one body belongs to a block.
-use Rattle.std.proofs.Common.{◌≡◌, ℕ, Bool, true, false, cond, not, ◌||◌, List, [], ◌∷◌, ◌++◌, Option, Some, None, refl, sym, ap, ◌∙◌, if◌then◌else◌}
+use Rattle.std.proofs.Common.{◌≡◌, ℕ, Bool, true, false, cond, not, ◌||◌, List, [], ◌∷◌, ◌++◌, Option, Some, None, refl, sym, ap, ◌∙◌}
 use Rattle.std.specs.List.{flat_map, filter, list_any}
 use Rattle.std.proofs.lemmas.List.Folds.{list_any-append}
 use Rattle.og_base.specs.declared.Rule.TheVariants.{N1}
@@ -15,7 +15,6 @@ use Rattle.og_ast.specs.declared.system.Unit.{Unit as UnitTree}
 use Rattle.og_ast.specs.declared.system.Unit.TheVariants as unit
 use Rattle.og_system.specs.Scopes.{is_among, folds_as, violated_if}
 use Rattle.og_system.specs.Bodies.{Home, Body, home_at, body_at, bodies, bodies_of_unit, bodies_of_system_part, bodies_of_block_part, homes, homes_of_unit, homes_of_system_part, references, references_of_unit, references_of_system_part, references_in_block, refers, foremost, home_of, miscounted, in_unit, violations}
-use Rattle.og_system.proofs.Foremost.{among_each}
 
 -- ---- a body that stands in a block
 

@@ -1,9 +1,10 @@
 -- Worked examples of ways: the names are those of the examples of bodies, p the process in the block b. Each tells of the signals in the
--- order of the text which are incoming, and which outgoing.
-use Rattle.std.specs.Prelude.{◌≡◌, Bool, true, false, List, [], ◌∷◌, ◌++◌, map}
+-- order of the text which are incoming, and which outgoing; the last one tells which are visible.
+use Rattle.std.specs.Prelude.{◌≡◌, ℕ, Bool, true, false, List, [], ◌∷◌, ◌++◌, map}
 use Rattle.og_ast.specs.declared.ground.Name.{Name}
 use Rattle.og_ast.specs.declared.system.BlockPart.{BlockPart}
 use Rattle.og_ast.specs.declared.system.BlockPart.TheVariants as member
+use Rattle.og_ast.specs.declared.system.BlockTree.{BlockTree}
 use Rattle.og_ast.specs.declared.system.PointTree.{PointTree}
 use Rattle.og_ast.specs.declared.system.PointTree.TheVariants as point
 use Rattle.og_ast.specs.declared.system.SystemPart.{SystemPart}
@@ -12,7 +13,7 @@ use Rattle.og_ast.specs.declared.system.SystemTree.{SystemTree}
 use Rattle.og_ast.specs.declared.system.Unit.TheVariants as unit
 use Rattle.og_system.specs.Bodies.{home_at}
 use Rattle.og_system.specs.Ways.{Directed, directed_signals}
-use Rattle.og_system.specs.Examples.{p_at, capital_p_at, q_at, b_at, g_at, c_at, end, system_of, block_of, body, path, env, route, channel, stands, link, r_at}
+use Rattle.og_system.specs.Examples.{col, p_at, capital_p_at, q_at, b_at, g_at, c_at, s_at, end, closed, system_of, block_of, body, path, env, route, channel, stands, link, r_at}
 
 abbrev signal : Name → SystemPart
 signal name = piece.Signal (record { place = end.place; signals = record { name = name; sorts = [] } ∷ []; «end» = end })
@@ -59,3 +60,20 @@ ChannelsOfOthers = told (channel (path env (to (q_at 1)) (g_at 2 ∷ []) ∷ [])
 -- a path from the process to itself
 abbrev pub ToItself : Type 0
 ToItself = told [] (route (path (to (p_at 1)) (to (p_at 2)) (g_at 3 ∷ []) ∷ []) ∷ []) ≡ (true, true) ∷ (false, false) ∷ (false, false) ∷ []
+
+-- BLOCK b ; SIGNAL c ; ENDBLOCK ;
+abbrev block_at : ℕ → BlockTree
+block_at n = record { place = col n; name = b_at n; «end» = end; parts = member.Signal (record { place = end.place; signals = record { name = c_at n; sorts = [] } ∷ []; «end» = end }) ∷ []; closing = closed }
+
+abbrev system_at : ℕ → List SystemPart → SystemTree
+system_at n parts = record { place = col n; name = s_at n; «end» = end; parts = parts; closing = closed }
+
+-- SYSTEM s ; SIGNAL g ; BLOCK b ; SIGNAL c ; ENDBLOCK ; BLOCK b ; SIGNAL c ; ENDBLOCK ; SIGNAL q ; ENDSYSTEM ; SYSTEM s ; SIGNAL g ;
+-- ENDSYSTEM ; where the process belongs to the second block
+abbrev pub VisibleSignals : Type 0
+VisibleSignals =
+    map (λ (d : Directed). d.visible) (directed_signals (unit.System around ∷ unit.System (system_at 40 (signal (g_at 41) ∷ [])) ∷ []) (body (p_at 30)) (home_at around (block_at 20)))
+    ≡ true ∷ false ∷ true ∷ true ∷ false ∷ []
+  where
+    around : SystemTree
+    around = system_at 1 (signal (g_at 2) ∷ piece.Block (block_at 10) ∷ piece.Block (block_at 20) ∷ signal (q_at 30) ∷ [])

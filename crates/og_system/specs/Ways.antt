@@ -2,8 +2,10 @@
 -- routes of its block that name the process. Where its block has no route they are the paths of the channels of its system that name
 -- the block. Where there is neither, each signal goes both ways. A signal is incoming where a way that carries it leads to the process,
 -- and outgoing where one leads from it. CONNECT adds no way, which departs from Z.101: channels alone lead to the process as well.
-use Rattle.std.specs.Prelude.{Bool, true, false, ◌||◌, List, [], ◌∷◌, flat_map, map, Option, Some, None, if◌then◌else◌}
+-- A signal is visible where the process stands if its block declares it, or the system of its block.
+use Rattle.std.specs.Prelude.{Bool, true, false, ◌&&◌, ◌||◌, ◌==◌, List, [], ◌∷◌, flat_map, map, Option, Some, None, if◌then◌else◌}
 use Rattle.std.specs.List.{filter}
+use Rattle.og_base.specs.declared.Place.{Place}
 use Rattle.og_ast.specs.declared.ground.Name.{Name}
 use Rattle.og_ast.specs.declared.system.BlockPart.{BlockPart}
 use Rattle.og_ast.specs.declared.system.BlockPart.TheVariants as member
@@ -23,27 +25,40 @@ use Rattle.og_system.specs.Bodies.{Home}
 
 -- ---- the signals of all systems and blocks, in the order of the text
 
-abbrev pub declared_in_block_part : BlockPart → List SigTree
-declared_in_block_part (member.Signal signal) = signal.signals
-declared_in_block_part (member.Route route) = []
-declared_in_block_part (member.Link link) = []
-declared_in_block_part (member.Process process) = []
-declared_in_block_part (member.Reference reference) = []
+abbrev pub same_place : Place → Place → Bool
+same_place a b = (a.file == b.file) && ((a.line == b.line) && (a.column == b.column))
 
-abbrev pub declared_in_system_part : SystemPart → List SigTree
-declared_in_system_part (piece.Use use') = []
-declared_in_system_part (piece.Signal signal) = signal.signals
-declared_in_system_part (piece.Channel channel) = []
-declared_in_system_part (piece.Procedure procedure) = []
-declared_in_system_part (piece.Block block) = flat_map declared_in_block_part block.parts
+-- a declared signal, and whether it is visible where the process stands
+pub record Declaration : Type 0 where
+  pub signal : SigTree
+  pub visible : Bool
 
-abbrev pub declared_in_unit : UnitTree → List SigTree
-declared_in_unit (unit.Use use') = []
-declared_in_unit (unit.System system) = flat_map declared_in_system_part system.parts
-declared_in_unit (unit.Process process) = []
+abbrev pub declaration : Bool → SigTree → Declaration
+declaration visible signal = record { signal = signal; visible = visible }
 
-abbrev pub all_signals : List UnitTree → List SigTree
-all_signals units = flat_map declared_in_unit units
+abbrev pub declared_in_block_part : Bool → BlockPart → List Declaration
+declared_in_block_part visible (member.Signal signal) = map (declaration visible) signal.signals
+declared_in_block_part visible (member.Route route) = []
+declared_in_block_part visible (member.Link link) = []
+declared_in_block_part visible (member.Process process) = []
+declared_in_block_part visible (member.Reference reference) = []
+
+-- in a system, where the block of the process stands at this place
+abbrev pub declared_in_system_part : Bool → Place → SystemPart → List Declaration
+declared_in_system_part visible block (piece.Use use') = []
+declared_in_system_part visible block (piece.Signal signal) = map (declaration visible) signal.signals
+declared_in_system_part visible block (piece.Channel channel) = []
+declared_in_system_part visible block (piece.Procedure procedure) = []
+declared_in_system_part visible block (piece.Block other) = flat_map (declared_in_block_part (same_place other.place block)) other.parts
+
+-- where the system and the block of the process stand at these places
+abbrev pub declared_in_unit : Place → Place → UnitTree → List Declaration
+declared_in_unit system block (unit.Use use') = []
+declared_in_unit system block (unit.System other) = flat_map (declared_in_system_part (same_place other.place system) block) other.parts
+declared_in_unit system block (unit.Process process) = []
+
+abbrev pub all_signals : List UnitTree → Home → List Declaration
+all_signals units home = flat_map (declared_in_unit home.system.place home.block.place) units
 
 -- ---- paths
 
@@ -112,14 +127,15 @@ abbrev pub is_outgoing : Option Ways → Name → Bool
 is_outgoing None signal = true
 is_outgoing (Some w) signal = is_among (flat_map (carried_from w.name) w.paths) signal
 
--- a signal, and which ways it goes
+-- a signal, whether it is visible where the process stands, and which ways it goes
 pub record Directed : Type 0 where
   pub signal : SigTree
+  pub visible : Bool
   pub incoming : Bool
   pub outgoing : Bool
 
-abbrev pub directed : Option Ways → SigTree → Directed
-directed ways signal = record { signal = signal; incoming = is_incoming ways signal.name; outgoing = is_outgoing ways signal.name }
+abbrev pub directed : Option Ways → Declaration → Directed
+directed ways d = record { signal = d.signal; visible = d.visible; incoming = is_incoming ways d.signal.name; outgoing = is_outgoing ways d.signal.name }
 
 abbrev pub directed_signals : List UnitTree → ProcessTree → Home → List Directed
-directed_signals units process home = map (directed (ways process home)) (all_signals units)
+directed_signals units process home = map (directed (ways process home)) (all_signals units home)

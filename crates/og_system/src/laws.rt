@@ -3,7 +3,7 @@ ghost use Rattle.std.specs.Prelude.{◌≡◌, ◌↔◌, ℕ, List, [], ◌∷�
 ghost use Rattle.og_ast.specs.declared.system.Unit.{Unit as UnitTree};
 ghost use Rattle.og_system.specs.Bodies.{Body, Home, bodies, home_of, violations, first_violation};
 ghost use Rattle.og_system.specs.Examples.{NothingAtAll, ReferenceAlone, OneBody, TwoBodies, SameFileTwice, ReferenceInAnotherCase, BodyWithoutReference, ReferenceWithoutBody, ReferenceToABodyInItsBlock, ReferenceToASignal, ReferenceToAType, RouteToAnotherProcess, RouteToItsBlock, ChannelToAProcess, ChannelWithoutItsSignal, Connected, ConnectedTheWrongWayRound, HomeByReference, FirstBody};
-ghost use Rattle.og_system.specs.WayExamples.{NoWays, RoutesOfTheProcess, RoutesOfOthers, RouteBeforeChannel, ChannelsAlone, ChannelsOfOthers, ToItself};
+ghost use Rattle.og_system.specs.WayExamples.{NoWays, RoutesOfTheProcess, RoutesOfOthers, RouteBeforeChannel, ChannelsAlone, ChannelsOfOthers, ToItself, VisibleSignals};
 ghost use Rattle.og_system.specs.ClosingExamples.{StopCloses, TaskAloneDoesNot, NothingDoesNot, EachBranchCloses, BranchesWithoutElse, OneBranchDoesNot, ElseDoesNot, TaskBehindADecision, DecisionInABranch, StartAndStop, NoStart, NamedStartAlone, InAState, CompositeAndPartition, ProcedureOfASystem};
 
 /// There is no first violation exactly where no rule is violated.
@@ -23,7 +23,7 @@ pub fn examples()
     ensures references { ReferenceInAnotherCase × BodyWithoutReference × ReferenceWithoutBody × ReferenceToABodyInItsBlock × ReferenceToASignal × ReferenceToAType }
     ensures paths { RouteToAnotherProcess × RouteToItsBlock × ChannelToAProcess × ChannelWithoutItsSignal × Connected × ConnectedTheWrongWayRound }
     ensures homes { HomeByReference × FirstBody }
-    ensures ways { NoWays × RoutesOfTheProcess × RoutesOfOthers × RouteBeforeChannel × ChannelsAlone × ChannelsOfOthers × ToItself }
+    ensures ways { NoWays × RoutesOfTheProcess × RoutesOfOthers × RouteBeforeChannel × ChannelsAlone × ChannelsOfOthers × ToItself × VisibleSignals }
 {}
 
 /// Worked examples of transitions that close, and of what is violated.

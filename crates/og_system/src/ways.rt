@@ -1,4 +1,4 @@
-//! The signals of all systems and blocks, and which of them reach and leave the process.
+//! The signals of all systems and blocks, which of them are visible where the process stands, and which reach and leave it.
 #![tactic(auto, using(crate::proofs::Along::along_ways))]
 
 ghost use Rattle.std.specs.Prelude.{◌≡◌, ◌++◌, false, map, flat_map, IfOk, OnOk};
@@ -6,7 +6,7 @@ ghost use Rattle.std.specs.List.{list_any};
 ghost use Rattle.og_system.specs.Lent.{read_home};
 ghost use Rattle.og_system.specs.Scopes.{routes_in_block, routes_of_block_part};
 ghost use Rattle.og_system.specs.Tables.{with_names};
-ghost use Rattle.og_system.specs.Ways.{along, ways as ways_in, is_at as is_at_end, is_named as is_named_by, has_any, carried, paths_of_block_part, paths_of_routes, paths_of_system_part, paths_of_channels, directed_signals, declared_in_unit, declared_in_system_part, declared_in_block_part};
+ghost use Rattle.og_system.specs.Ways.{along, ways as ways_in, is_at as is_at_end, is_named as is_named_by, has_any, carried, paths_of_block_part, paths_of_routes, paths_of_system_part, paths_of_channels, directed_signals, same_place as same_place_in, declaration, declared_in_unit, declared_in_system_part, declared_in_block_part};
 ghost use Rattle.og_system.specs.WayTables.{nothing_carried, with_path, with_paths, way_tables as tables_of_ways, directed_by, read_directed};
 
 use crate::bodies::Home;
@@ -17,6 +17,7 @@ use og_ast::{
     BlockPart, BlockTree, Name, PathTree, PointTree, ProcessTree, SigTree, SystemPart, SystemTree,
     Unit,
 };
+use og_base::Place;
 use og_names::{Names, NoMemory};
 use std::alloc::Global;
 
@@ -24,6 +25,8 @@ use std::alloc::Global;
 #[derive(Clone, Copy)]
 pub struct DirectedSignal<'u> {
     pub signal: &'u SigTree,
+    /// Whether the block of the process declares it, or its system.
+    pub visible: bool,
     /// Whether a way that carries it leads to the process.
     pub incoming: bool,
     /// Whether a way that carries it leads from the process.
@@ -49,19 +52,27 @@ pub fn signals_of<'u>(
 {
     let tables = WayTables::of(alloc, process, home)?;
     let mut signals = Vec::new(alloc);
-    add_units(&mut signals, &tables, units)?;
+    add_units(
+        &mut signals,
+        &tables,
+        home.system.place,
+        home.block.place,
+        units,
+    )?;
     Ok(signals)
 }
 
 fn add_units<'u>(
     signals: &mut Vec<DirectedSignal<'u>>,
     tables: &WayTables,
+    system: Place,
+    block: Place,
     units: &'u [Unit],
 ) -> Result<(), NoMemory>
-    ensures { OnOk result (map read_directed signals.new.items ≡ map read_directed signals.old.items ++ map (directed_by tables.now) (flat_map declared_in_unit units.now)) }
+    ensures { OnOk result (map read_directed signals.new.items ≡ map read_directed signals.old.items ++ map (directed_by tables.now) (flat_map (declared_in_unit system block) units.now)) }
 {
     for unit in units {
-        add_unit(signals, tables, unit)?;
+        add_unit(signals, tables, system, block, unit)?;
     }
     Ok(())
 }
@@ -69,12 +80,15 @@ fn add_units<'u>(
 fn add_unit<'u>(
     signals: &mut Vec<DirectedSignal<'u>>,
     tables: &WayTables,
+    system: Place,
+    block: Place,
     unit: &'u Unit,
 ) -> Result<(), NoMemory>
-    ensures { OnOk result (map read_directed signals.new.items ≡ map read_directed signals.old.items ++ map (directed_by tables.now) (declared_in_unit unit.now)) }
+    ensures { OnOk result (map read_directed signals.new.items ≡ map read_directed signals.old.items ++ map (directed_by tables.now) (declared_in_unit system block unit.now)) }
 {
-    if let Unit::System(system) = unit {
-        add_system_parts(signals, tables, system.parts.as_slice())?;
+    if let Unit::System(tree) = unit {
+        let visible = same_place(tree.place, system);
+        add_system_parts(signals, tables, visible, block, tree.parts.as_slice())?;
     }
     Ok(())
 }
@@ -82,12 +96,14 @@ fn add_unit<'u>(
 fn add_system_parts<'u>(
     signals: &mut Vec<DirectedSignal<'u>>,
     tables: &WayTables,
+    visible: bool,
+    block: Place,
     parts: &'u [SystemPart],
 ) -> Result<(), NoMemory>
-    ensures { OnOk result (map read_directed signals.new.items ≡ map read_directed signals.old.items ++ map (directed_by tables.now) (flat_map declared_in_system_part parts.now)) }
+    ensures { OnOk result (map read_directed signals.new.items ≡ map read_directed signals.old.items ++ map (directed_by tables.now) (flat_map (declared_in_system_part visible block) parts.now)) }
 {
     for part in parts {
-        add_system_part(signals, tables, part)?;
+        add_system_part(signals, tables, visible, block, part)?;
     }
     Ok(())
 }
@@ -95,32 +111,42 @@ fn add_system_parts<'u>(
 fn add_system_part<'u>(
     signals: &mut Vec<DirectedSignal<'u>>,
     tables: &WayTables,
+    visible: bool,
+    block: Place,
     part: &'u SystemPart,
 ) -> Result<(), NoMemory>
-    ensures { OnOk result (map read_directed signals.new.items ≡ map read_directed signals.old.items ++ map (directed_by tables.now) (declared_in_system_part part.now)) }
+    ensures { OnOk result (map read_directed signals.new.items ≡ map read_directed signals.old.items ++ map (directed_by tables.now) (declared_in_system_part visible block part.now)) }
 {
     match part {
         SystemPart::Signal(tree) => {
-            add_signals(signals, tables, tree.signals.as_slice())?;
+            add_signals(signals, tables, visible, tree.signals.as_slice())?;
             Ok(())
         }
-        SystemPart::Block(block) => {
-            add_block_parts(signals, tables, block.parts.as_slice())?;
+        SystemPart::Block(tree) => {
+            let visible = same_place(tree.place, block);
+            add_block_parts(signals, tables, visible, tree.parts.as_slice())?;
             Ok(())
         }
         _ => Ok(()),
     }
 }
 
+fn same_place(a: Place, b: Place) -> bool
+    ensures { result ≡ same_place_in a b }
+{
+    a.file == b.file && (a.line == b.line && a.column == b.column)
+}
+
 fn add_block_parts<'u>(
     signals: &mut Vec<DirectedSignal<'u>>,
     tables: &WayTables,
+    visible: bool,
     parts: &'u [BlockPart],
 ) -> Result<(), NoMemory>
-    ensures { OnOk result (map read_directed signals.new.items ≡ map read_directed signals.old.items ++ map (directed_by tables.now) (flat_map declared_in_block_part parts.now)) }
+    ensures { OnOk result (map read_directed signals.new.items ≡ map read_directed signals.old.items ++ map (directed_by tables.now) (flat_map (declared_in_block_part visible) parts.now)) }
 {
     for part in parts {
-        add_block_part(signals, tables, part)?;
+        add_block_part(signals, tables, visible, part)?;
     }
     Ok(())
 }
@@ -128,12 +154,13 @@ fn add_block_parts<'u>(
 fn add_block_part<'u>(
     signals: &mut Vec<DirectedSignal<'u>>,
     tables: &WayTables,
+    visible: bool,
     part: &'u BlockPart,
 ) -> Result<(), NoMemory>
-    ensures { OnOk result (map read_directed signals.new.items ≡ map read_directed signals.old.items ++ map (directed_by tables.now) (declared_in_block_part part.now)) }
+    ensures { OnOk result (map read_directed signals.new.items ≡ map read_directed signals.old.items ++ map (directed_by tables.now) (declared_in_block_part visible part.now)) }
 {
     if let BlockPart::Signal(tree) = part {
-        add_signals(signals, tables, tree.signals.as_slice())?;
+        add_signals(signals, tables, visible, tree.signals.as_slice())?;
     }
     Ok(())
 }
@@ -141,12 +168,13 @@ fn add_block_part<'u>(
 fn add_signals<'u>(
     signals: &mut Vec<DirectedSignal<'u>>,
     tables: &WayTables,
+    visible: bool,
     trees: &'u [SigTree],
 ) -> Result<(), NoMemory>
-    ensures { OnOk result (map read_directed signals.new.items ≡ map read_directed signals.old.items ++ map (directed_by tables.now) trees.now) }
+    ensures { OnOk result (map read_directed signals.new.items ≡ map read_directed signals.old.items ++ map (directed_by tables.now) (map (declaration visible) trees.now)) }
 {
     for tree in trees {
-        let directed = tables.directed(tree);
+        let directed = tables.directed(tree, visible);
         signals.push(directed)?;
     }
     Ok(())
@@ -167,13 +195,14 @@ impl WayTables {
         Ok(no_signals(alloc, true))
     }
 
-    fn directed<'u>(&self, signal: &'u SigTree) -> DirectedSignal<'u>
-        ensures { read_directed result ≡ directed_by self.now signal.now }
+    fn directed<'u>(&self, signal: &'u SigTree, visible: bool) -> DirectedSignal<'u>
+        ensures { read_directed result ≡ directed_by self.now (declaration visible signal.now) }
     {
         let incoming = self.both || is_in(&self.incoming, &signal.name);
         let outgoing = self.both || is_in(&self.outgoing, &signal.name);
         DirectedSignal {
             signal,
+            visible,
             incoming,
             outgoing,
         }

@@ -14,4 +14,4 @@ pub returns-clause-homes : goal.returns-clause-homes
 returns-clause-homes c = (refl, refl)
 
 pub returns-clause-ways : goal.returns-clause-ways
-returns-clause-ways c = (refl, refl, refl, refl, refl, refl, refl)
+returns-clause-ways c = (refl, refl, refl, refl, refl, refl, refl, refl)

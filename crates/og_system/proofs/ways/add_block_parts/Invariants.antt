@@ -6,4 +6,4 @@ use Rattle.og_system.proofs.ways.add_block_parts.Given as goal
 
 abbrev pub invariant-loop-part : goal.invariant-loop-part
 invariant-loop-part l =
-    Listing (directed_by l.tables) declared_in_block_part l.parts l.part-index (map read_directed l.signals.items) (map read_directed l.initial.signals.items)
+    Listing (directed_by l.tables) (declared_in_block_part l.visible) l.parts l.part-index (map read_directed l.signals.items) (map read_directed l.initial.signals.items)

@@ -5,4 +5,4 @@ use Rattle.og_system.proofs.ways.add_signals.Given as goal
 
 abbrev pub invariant-loop-tree : goal.invariant-loop-tree
 invariant-loop-tree l =
-    ListingEach (directed_by l.tables) l.trees l.tree-index (map read_directed l.signals.items) (map read_directed l.initial.signals.items)
+    ListingEach (directed_by l.tables) l.visible l.trees l.tree-index (map read_directed l.signals.items) (map read_directed l.initial.signals.items)

@@ -6,4 +6,4 @@ use Rattle.og_system.proofs.ways.add_units.Given as goal
 
 abbrev pub invariant-loop-unit : goal.invariant-loop-unit
 invariant-loop-unit l =
-    Listing (directed_by l.tables) declared_in_unit l.units l.unit-index (map read_directed l.signals.items) (map read_directed l.initial.signals.items)
+    Listing (directed_by l.tables) (declared_in_unit l.system l.block) l.units l.unit-index (map read_directed l.signals.items) (map read_directed l.initial.signals.items)
