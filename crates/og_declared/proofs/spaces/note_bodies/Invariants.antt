@@ -1,0 +1,7 @@
+use Rattle.std.proofs.Common.{[]}
+use Rattle.og_system.specs.Scopes.{processes_of_unit}
+use Rattle.og_declared.proofs.Spacing.{Spacing}
+use Rattle.og_declared.proofs.spaces.note_bodies.Given as goal
+
+abbrev pub invariant-loop-unit : goal.invariant-loop-unit
+invariant-loop-unit l = Spacing processes_of_unit l.units l.unit-index l.table [] l.first l.initial.first
