@@ -1,9 +1,12 @@
 //! Laws of files. Each function does nothing, and its contract says what holds.
 ghost use Rattle.std.specs.Prelude.{◌≡◌, ◌⊎◌, List};
+ghost use Rattle.std.specs.List.{Contains};
+ghost use Rattle.og_base.specs.declared.Place.{Place};
 ghost use Rattle.og_base.specs.declared.Violation.{Violation};
 ghost use Rattle.og_lexer.specs.declared.Spanned.{Spanned};
 ghost use Rattle.og_lexer.specs.Texts.{EndsOnce};
 ghost use Rattle.og_ast.specs.declared.system.Unit.{Unit as UnitTree};
+ghost use Rattle.og_places.specs.Contents.{places_in_units};
 ghost use Rattle.og_sdl.specs.declared.table.TheConstants.{SDL};
 ghost use Rattle.og_reading.specs.Sentences.{FirstSyntactic};
 ghost use Rattle.og_parse.specs.Grammar.{AreUnits};
@@ -34,6 +37,11 @@ pub fn same_tokens()
 {
     can_be_read();
 }
+
+/// Each place that the trees of a file keep is the place of one of its tokens, so that what is told of it is told of the file.
+pub fn places_stand_in_text()
+    ensures { (units : List UnitTree) (tokens : List Spanned) (p : Place) → AreUnits units tokens → Contains (places_in_units units) p → (t : Spanned) × Contains tokens t × (t.place ≡ p) }
+{}
 
 /// Worked examples of the grammar.
 pub fn examples()
