@@ -414,9 +414,12 @@ module _ (P : Place → Type 0) where
   composite_stands n stand c p all =
       let below = below_composite c in
       across (keeping.of-composite c) (standing.of-composite c)
-      (λ each. (each.0, small_stand size-InnerTree n places_in_inner in_inner stand c.parts (omega (arith, p, below))
-      (left (flat_map places_in_inner c.parts) (places_in_closing c.closing)
-      (third (places_in_end c.«end») (flat_map places_in_points c.points) (flat_map places_in_inner c.parts ++ places_in_closing c.closing) each.1.1)))) all
+      (λ each. (
+        each.0,
+        small_stand size-InnerTree n places_in_inner in_inner stand c.parts (omega (arith, p, below))
+            (left (flat_map places_in_inner c.parts) (places_in_closing c.closing)
+            (third (places_in_end c.«end») (flat_map places_in_points c.points) (flat_map places_in_inner c.parts ++ places_in_closing c.closing) each.1.1)),
+      )) all
 
   abbrev PartitionStands : AggregationPart → Type 0
   PartitionStands p = Each P (places_in_partition p) → Stand P (in_partition p)
@@ -440,9 +443,12 @@ module _ (P : Place → Type 0) where
   aggregation_stands n stand a p all =
       let below = below_aggregation a in
       across (keeping.of-aggregation a) (standing.of-aggregation a)
-      (λ each. (each.0, small_stand size-AggregationPart n places_in_partition in_partition (partition_stands n stand) a.parts (omega (arith, p, below))
-      (left (flat_map places_in_partition a.parts) (places_in_closing a.closing)
-      (third (places_in_end a.«end») (flat_map places_in_points a.points) (flat_map places_in_partition a.parts ++ places_in_closing a.closing) each.1.1)))) all
+      (λ each. (
+        each.0,
+        small_stand size-AggregationPart n places_in_partition in_partition (partition_stands n stand) a.parts (omega (arith, p, below))
+            (left (flat_map places_in_partition a.parts) (places_in_closing a.closing)
+            (third (places_in_end a.«end») (flat_map places_in_points a.points) (flat_map places_in_partition a.parts ++ places_in_closing a.closing) each.1.1)),
+      )) all
 
   inner_by : (n : ℕ) → Deeper n → (x : InnerLayer) → inside_inner x ≤ n → InnerStands (roll-InnerTree x)
   inner_by n stand (open'.InnerTree::Dcl dcl) p = subst InnerStands (sym (inner.rolls-Dcl dcl)) (across (keeping.of-Dcl-inner dcl) (standing.of-Dcl-inner dcl) (dcl_stands dcl))

@@ -13,3 +13,4 @@ mod PlacesOfExpressions
 mod PlacesOfBodies
 mod PlacesOfStates
 mod PlacesOfUnits
+mod PlacesWorked

@@ -1,11 +1,9 @@
 //! Laws of places, each as the contract of a function that does nothing.
-ghost use Rattle.og_places.specs.PlaceExamples.{CommentBehindName, KeywordAlone, OperatorFirst, TwoSelectors, TwoComponents, TwoVariables, DecisionInStep, ExternalProcedure, InputAndSave, StateInPartition, RouteFromOutside, CountedReference, TwoUnits};
+ghost use Rattle.std.specs.Prelude.{◌≡◌, ◌++◌, List};
+ghost use Rattle.og_ast.specs.declared.system.Unit.{Unit as UnitTree};
+ghost use Rattle.og_places.specs.Contents.{places_in_units};
 
-/// Worked examples of the places that trees keep.
-pub fn places_of_trees()
-    ensures names { CommentBehindName × KeywordAlone }
-    ensures expressions { OperatorFirst × TwoSelectors × TwoComponents }
-    ensures bodies { TwoVariables × DecisionInStep × ExternalProcedure }
-    ensures states { InputAndSave × StateInPartition }
-    ensures systems { RouteFromOutside × CountedReference × TwoUnits }
+/// The places that the trees of several files keep are those of each file, one file behind the other.
+pub fn places_of_several_files()
+    ensures { (units more : List UnitTree) → places_in_units (units ++ more) ≡ places_in_units units ++ places_in_units more }
 {}

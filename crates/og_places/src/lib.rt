@@ -3,4 +3,4 @@
 
 mod laws;
 
-pub use laws::places_of_trees;
+pub use laws::places_of_several_files;

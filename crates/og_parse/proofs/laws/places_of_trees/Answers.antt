@@ -1,5 +1,5 @@
-use Rattle.og_places.proofs.Worked.{comment_behind_name, keyword_alone, operator_first, two_selectors, two_components, two_variables, decision_in_step, external_procedure, input_and_save, state_in_partition, route_from_outside, counted_reference, two_units}
-use Rattle.og_places.proofs.laws.places_of_trees.Goals as goal
+use Rattle.og_parse.proofs.PlacesWorked.{comment_behind_name, keyword_alone, operator_first, two_selectors, two_components, two_variables, decision_in_step, external_procedure, input_and_save, state_in_partition, route_from_outside, counted_reference, two_units}
+use Rattle.og_parse.proofs.laws.places_of_trees.Goals as goal
 
 pub returns-clause-names : goal.returns-clause-names
 returns-clause-names c = (comment_behind_name, keyword_alone)

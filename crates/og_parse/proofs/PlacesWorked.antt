@@ -2,7 +2,7 @@
 use Rattle.std.proofs.Common.{refl}
 use Rattle.og_ast.specs.declared.expression.VarTree.{out-roll-VarTree}
 use Rattle.og_places.proofs.Opens.{of-Number, of-Variable, of-Binary, of-Components, of-Exclamation, of-Index, of-component, of-expr, of-selector, of-variable, of-Decision, of-way, of-other, of-choice, of-step, of-steps, of-composite, of-aggregation, of-Start-inner, of-Composite-partition}
-use Rattle.og_places.specs.PlaceExamples.{CommentBehindName, KeywordAlone, OperatorFirst, TwoSelectors, TwoComponents, TwoVariables, DecisionInStep, ExternalProcedure, InputAndSave, StateInPartition, RouteFromOutside, CountedReference, TwoUnits}
+use Rattle.og_parse.specs.PlaceExamples.{CommentBehindName, KeywordAlone, OperatorFirst, TwoSelectors, TwoComponents, TwoVariables, DecisionInStep, ExternalProcedure, InputAndSave, StateInPartition, RouteFromOutside, CountedReference, TwoUnits}
 
 pub comment_behind_name : CommentBehindName
 comment_behind_name = refl
