@@ -1,4 +1,5 @@
 pub mod Built
 pub mod FirstSoFar
 pub mod Opens
+pub mod Standing
 pub mod Worked

@@ -14,7 +14,7 @@ use Rattle.og_ast.specs.declared.transition.TerminatorTree.{TerminatorTree}
 use Rattle.og_ast.specs.declared.transition.TransitionTree.{TransitionTree, roll-TransitionTree, fold-roll-TransitionTree}
 use Rattle.og_ast.specs.declared.ground.EndTree.{EndTree}
 use Rattle.og_forms.specs.Forms.{Forms, is_built, maybe, in_terminator, action_layer, branch_layer, decision_layer, else_layer, step_layer, transition_layer, in_branch, in_decision, in_else, in_step, in_transition}
-use Rattle.og_forms.specs.Examples.{goes, LabelledDecision, AssignedValueAndCall, CallsByName, OutputsAndVia, EveryStateSaves, BasicState, Partition, SignalWithParameter, TheLesserPlace}
+use Rattle.og_forms.specs.Examples.{goes, LabelledDecision, AssignedValueAndCall, CallsByName, OutputsAndVia, EveryStateSaves, BasicState, Partition, SignalWithParameter, TheLesserPlace, BuiltFormsAlone, BuiltFormBefore}
 use Rattle.og_forms.proofs.Opens.{of-choice, of-step, of-Task, of-Output, of-Call, of-Decision, of-aggregation, of-composite, of-Dcl-partition, of-Composite-partition, of-Start-inner}
 
 of-goes : (steps : List StepTree) (end : Option TerminatorTree) → in_transition (goes steps end) ≡ flat_map in_step steps ++ maybe in_terminator end
@@ -59,3 +59,11 @@ signal_with_parameter = refl
 pub the_lesser_place : TheLesserPlace
 unfolding is_built
 the_lesser_place = refl
+
+pub built_forms_alone : BuiltFormsAlone
+unfolding is_built
+built_forms_alone = refl
+
+pub built_form_before : BuiltFormBefore
+unfolding is_built
+built_form_before = refl

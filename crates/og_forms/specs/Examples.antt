@@ -195,3 +195,11 @@ SignalWithParameter =
 -- of two forms the one with the lesser place is told
 abbrev pub TheLesserPlace : Type 0
 TheLesserPlace = first_of (unbuilt (at form.Stop (col 9) ∷ at form.Dcl (col 2) ∷ [])) ≡ Some (record { rule = F1; place = col 2 })
+
+-- no violation is told of types of parameters and of a task that is a text
+abbrev pub BuiltFormsAlone : Type 0
+BuiltFormsAlone = unbuilt (at form.Parameters (col 4) ∷ at form.InformalTask (col 9) ∷ []) ≡ []
+
+-- one that stands behind such a task is told
+abbrev pub BuiltFormBefore : Type 0
+BuiltFormBefore = first_of (unbuilt (at form.InformalTask (col 2) ∷ at form.Stop (col 9) ∷ [])) ≡ Some (record { rule = F1; place = col 9 })

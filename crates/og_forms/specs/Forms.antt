@@ -292,9 +292,11 @@ forms_in units = flat_map in_unit units
 
 -- ---- forms that are not built
 
--- whether models with the form can be compiled: none of them yet
+-- whether models with the form can be compiled: types of signals' parameters, and tasks that are a text
 unfoldable pub is_built : Form → Bool
-is_built f = false
+is_built form.Parameters = true
+is_built form.InformalTask = true
+is_built _ = false
 
 -- F1 at the form, where it is not built
 abbrev pub violation_at : FormAt → List Violation

@@ -61,16 +61,16 @@ pub enum Form {
     ContinuousSignal,
 }
 
-/// Whether models with the form can be compiled. None of them can yet.
+/// Whether models with the form can be compiled: types of signals' parameters, and tasks that are a text.
 #[tactic(auto, unfolding(crate::specs::Forms::is_built))]
 pub fn is_built(form: Form) -> bool
     ensures { result ≡ is_built_form form }
 {
     match form {
-        Form::Parameters => false,
+        Form::Parameters => true,
         Form::Dcl => false,
         Form::Assignment => false,
-        Form::InformalTask => false,
+        Form::InformalTask => true,
         Form::InputVariables => false,
         Form::OutputValues => false,
         Form::SeveralStates => false,

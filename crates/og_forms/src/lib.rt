@@ -10,5 +10,5 @@ mod transitions;
 mod units;
 
 pub use form::{Form, is_built};
-pub use laws::{examples, first_of_forms};
+pub use laws::{examples, first_of_forms, forms_stand_in_units};
 pub use units::first_unbuilt;

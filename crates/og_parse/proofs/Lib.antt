@@ -8,3 +8,9 @@ mod AlikeStates
 mod AlikeUnits
 mod SameTokens
 mod Worked
+mod PlacesKept
+mod PlacesOfExpressions
+mod PlacesOfBodies
+mod PlacesOfStates
+mod PlacesOfUnits
+mod PlacesWorked

@@ -2,3 +2,4 @@ pub mod Reading
 pub mod Grammar
 pub mod Alike
 pub mod Examples
+pub mod PlaceExamples

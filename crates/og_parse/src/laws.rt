@@ -1,14 +1,18 @@
 //! Laws of files. Each function does nothing, and its contract says what holds.
 ghost use Rattle.std.specs.Prelude.{◌≡◌, ◌⊎◌, List};
+ghost use Rattle.std.specs.List.{Contains};
+ghost use Rattle.og_base.specs.declared.Place.{Place};
 ghost use Rattle.og_base.specs.declared.Violation.{Violation};
 ghost use Rattle.og_lexer.specs.declared.Spanned.{Spanned};
 ghost use Rattle.og_lexer.specs.Texts.{EndsOnce};
 ghost use Rattle.og_ast.specs.declared.system.Unit.{Unit as UnitTree};
+ghost use Rattle.og_places.specs.Contents.{places_in_units};
 ghost use Rattle.og_sdl.specs.declared.table.TheConstants.{SDL};
 ghost use Rattle.og_reading.specs.Sentences.{FirstSyntactic};
 ghost use Rattle.og_parse.specs.Grammar.{AreUnits};
 ghost use Rattle.og_parse.specs.Alike.{words_of, AreAlike, StandsAtOne};
 ghost use Rattle.og_parse.specs.Examples.{ProductInSum, SumToTheLeft, AndInOr, SignInProduct, KeywordAsField, ChoiceOfChoice, NoItems, TwoItems, NegativeComponent, LabelledTask, DecisionWithElse, HyphenedModule};
+ghost use Rattle.og_parse.specs.PlaceExamples.{CommentBehindName, KeywordAlone, OperatorFirst, TwoSelectors, TwoComponents, TwoVariables, DecisionInStep, ExternalProcedure, InputAndSave, StateInPartition, RouteFromOutside, CountedReference, TwoUnits};
 
 use og_sdl::can_be_read;
 
@@ -34,6 +38,20 @@ pub fn same_tokens()
 {
     can_be_read();
 }
+
+/// Each place that the trees of a file keep is the place of one of its tokens, so that what is told of it is told of the file.
+pub fn places_stand_in_text()
+    ensures { (units : List UnitTree) (tokens : List Spanned) (p : Place) → AreUnits units tokens → Contains (places_in_units units) p → (t : Spanned) × Contains tokens t × (t.place ≡ p) }
+{}
+
+/// Worked examples of the places that trees keep.
+pub fn places_of_trees()
+    ensures names { CommentBehindName × KeywordAlone }
+    ensures expressions { OperatorFirst × TwoSelectors × TwoComponents }
+    ensures bodies { TwoVariables × DecisionInStep × ExternalProcedure }
+    ensures states { InputAndSave × StateInPartition }
+    ensures systems { RouteFromOutside × CountedReference × TwoUnits }
+{}
 
 /// Worked examples of the grammar.
 pub fn examples()
