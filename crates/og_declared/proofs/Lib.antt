@@ -4,4 +4,6 @@ pub mod Spacing
 pub mod Joining
 pub mod ByTables
 pub mod Kept
+pub mod Looking
+pub mod Holding
 pub mod Standing

@@ -1,5 +1,5 @@
--- Violations stand at names that are looked at.
-use Rattle.std.proofs.Common.{◌≡◌, ℕ, Bool, true, false, if◌then◌else◌, List, [], ◌∷◌, ◌++◌, map, Some, Contains, subst}
+-- Violations stand at places of the units.
+use Rattle.std.proofs.Common.{◌≡◌, ℕ, Bool, true, false, if◌then◌else◌, List, [], ◌∷◌, ◌++◌, Some, Contains, subst}
 use Rattle.std.specs.Prelude.{All}
 use Rattle.std.specs.List.{flat_map, AllByRecursion}
 use Rattle.std.proofs.lemmas.List.Elements.{All-from_recursion, recursion_from_All, All-contains_itself}
@@ -8,6 +8,7 @@ use Rattle.og_base.specs.declared.Rule.{Rule}
 use Rattle.og_base.specs.declared.Rule.TheVariants.{N2, N4}
 use Rattle.og_base.specs.declared.Violation.{Violation}
 use Rattle.og_base.specs.Order.{comes_before, first_from, first_of}
+use Rattle.og_places.specs.Contents.{places_in_units}
 use Rattle.og_ast.specs.declared.ground.HyphenedName.{HyphenedName}
 use Rattle.og_ast.specs.declared.ground.Name.{Name}
 use Rattle.og_ast.specs.declared.system.BlockPart.{BlockPart}
@@ -22,7 +23,8 @@ use Rattle.og_system.specs.Scopes.{is_among, violated_if, looked_up}
 use Rattle.og_declared.specs.Spaces.{has_two_underscores, spaces, declared_after, each_declared_after, in_space}
 use Rattle.og_declared.specs.Sorts.{hyphened_key, front_of, is_type, is_seen_in_system, is_seen_in_block, in_sort, in_signal, in_block_part, in_system_part, in_unit, in_sorts}
 use Rattle.og_declared.specs.Violations.{violations, first_violation}
-use Rattle.og_declared.specs.Laws.{names_in_sort, names_in_signal, names_in_block_part, names_in_part, names_in_unit, all_of, names_looked_at, place_at, places_looked_at}
+use Rattle.og_declared.proofs.Looking.{names_in_sort, names_in_signal, names_in_block_part, names_in_part, names_in_unit, all_of, names_looked_at}
+use Rattle.og_declared.proofs.Holding.{all_held}
 
 each_both : {X : Type 0} (P : X → Type 0) (xs ys : List X) → AllByRecursion P xs → AllByRecursion P ys → AllByRecursion P (xs ++ ys)
 each_both P [] ys p q = q
@@ -35,10 +37,6 @@ front P (x ∷ xs) ys all = (all.0, front P xs ys all.1)
 back : {X : Type 0} (P : X → Type 0) (xs ys : List X) → AllByRecursion P (xs ++ ys) → AllByRecursion P ys
 back P [] ys all = all
 back P (x ∷ xs) ys all = back P xs ys all.1
-
-mapped : {X Y : Type 0} (h : X → Y) (P : Y → Type 0) (xs : List X) → AllByRecursion P (map h xs) → AllByRecursion (λ x. P (h x)) xs
-mapped h P [] all = tt
-mapped h P (x ∷ xs) all = (all.0, mapped h P xs all.1)
 
 -- what holds of the place of each name holds of the place of each violation
 module _ (R : Place → Type 0) where
@@ -133,15 +131,15 @@ module _ (R : Place → Type 0) where
   one_stands (w ∷ vs) v all is = first_stands w vs v all.0 all.1 is
 
 abbrev InPlaces : List UnitTree → Place → Type 0
-InPlaces units place = Contains (places_looked_at units) place
+InPlaces units place = Contains (places_in_units units) place
 
 in_units : (types constants : List (List ℕ)) (units : List UnitTree) → AllByRecursion (λ (v : Violation). InPlaces units v.place) (violations types constants units)
 in_units types constants units =
     all_stand (InPlaces units) types constants units
-    (mapped place_at (InPlaces units) (names_looked_at units) (recursion_from_All (InPlaces units) (places_looked_at units) (All-contains_itself (places_looked_at units))))
+    (all_held (InPlaces units) units (recursion_from_All (InPlaces units) (places_in_units units) (All-contains_itself (places_in_units units))))
 
-pub each_in_units : (types constants : List (List ℕ)) (units : List UnitTree) → All (λ v. Contains (places_looked_at units) v.place) (violations types constants units)
+pub each_in_units : (types constants : List (List ℕ)) (units : List UnitTree) → All (λ v. Contains (places_in_units units) v.place) (violations types constants units)
 each_in_units types constants units = All-from_recursion (λ (v : Violation). InPlaces units v.place) (violations types constants units) (in_units types constants units)
 
-pub first_in_units : (types constants : List (List ℕ)) (units : List UnitTree) (v : Violation) → first_violation types constants units ≡ Some v → Contains (places_looked_at units) v.place
+pub first_in_units : (types constants : List (List ℕ)) (units : List UnitTree) (v : Violation) → first_violation types constants units ≡ Some v → Contains (places_in_units units) v.place
 first_in_units types constants units v is = one_stands (InPlaces units) (violations types constants units) v (in_units types constants units) is

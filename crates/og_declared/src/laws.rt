@@ -1,5 +1,6 @@
 //! Laws of what systems and blocks declare, each as the contract of a function that does nothing.
 ghost use Rattle.std.specs.Prelude.{◌≡◌, ◌↔◌, ℕ, List, [], None, Some, All, Contains};
+ghost use Rattle.og_places.specs.Contents.{places_in_units};
 ghost use Rattle.og_ast.specs.declared.ground.Name.{Name};
 ghost use Rattle.og_ast.specs.declared.system.BlockTree.{BlockTree};
 ghost use Rattle.og_ast.specs.declared.system.SystemTree.{SystemTree};
@@ -9,7 +10,7 @@ ghost use Rattle.og_system.specs.Scopes.{key, seen_in_system, seen_in_block};
 ghost use Rattle.og_declared.specs.Spaces.{signals_in, spaces};
 ghost use Rattle.og_declared.specs.Sorts.{is_seen_in_system, is_seen_in_block, sorts_in};
 ghost use Rattle.og_declared.specs.Violations.{violations, first_violation};
-ghost use Rattle.og_declared.specs.Laws.{AllDiffer, HasNoTwoUnderscores, IsOfType, places_looked_at};
+ghost use Rattle.og_declared.specs.Laws.{AllDiffer, HasNoTwoUnderscores, IsOfType};
 ghost use Rattle.og_declared.specs.Examples.{SignalTwice, SignalInTwoBlocks, SignalBehindItsBlock, SignalInTwoFiles, OneNameInTwoSpaces, ChannelTwice, BlockTwice, ProcedureTwice, RouteTwice, RouteInTwoBlocks, BodyTwiceInABlock, BodyTwiceAtFileLevel, BodyInABlockAndAtFileLevel, ReferenceTwice, TwoUnderscores, TwoUnderscoresTwice, TwoUnderscoresOfASystem, TwoUnderscoresOfABody, TypeOfAsn, BuiltInTypes, NoSuchType, HyphensOfAType, TypeThatIsAChannel, TypeThatIsARoute, TypeThatIsARouteElsewhere, TypeThatIsAConstant, TypeThatIsAProcedure};
 
 /// There is no first violation exactly where no rule is violated.
@@ -26,10 +27,10 @@ pub fn without_violations()
     ensures sorts { (types constants : List (List ℕ)) (units : List UnitTree) → violations types constants units ≡ [] → All (IsOfType types) (sorts_in units) }
 {}
 
-/// Each violation stands at a name that is looked at, and so does the first one.
+/// Each violation stands at a place that the trees of the units keep, and so does the first one.
 pub fn violations_stand_in_units()
-    ensures each { (types constants : List (List ℕ)) (units : List UnitTree) → All (λ v. Contains (places_looked_at units) v.place) (violations types constants units) }
-    ensures first { (types constants : List (List ℕ)) (units : List UnitTree) (v : Violation) → first_violation types constants units ≡ Some v → Contains (places_looked_at units) v.place }
+    ensures each { (types constants : List (List ℕ)) (units : List UnitTree) → All (λ v. Contains (places_in_units units) v.place) (violations types constants units) }
+    ensures first { (types constants : List (List ℕ)) (units : List UnitTree) (v : Violation) → first_violation types constants units ≡ Some v → Contains (places_in_units units) v.place }
 {}
 
 /// What is seen where the type of a parameter stands is what systems and blocks see.
